@@ -1,0 +1,3 @@
+pub mod Days
+pub mod Daylight
+pub mod Bytes

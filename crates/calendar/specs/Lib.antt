@@ -1,0 +1,4 @@
+pub mod Days
+pub mod Advance
+pub mod Daylight
+pub mod Update

@@ -1,0 +1,4 @@
+pub mod Modes
+pub mod Bytes
+pub mod Hours
+pub mod Steps

@@ -1,0 +1,3 @@
+pub mod Days
+pub mod Times
+pub mod Calls
