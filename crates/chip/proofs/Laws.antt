@@ -1,0 +1,5 @@
+pub mod Locations
+pub mod Run
+pub mod Rules
+pub mod Refusals
+pub mod Changes

@@ -1,0 +1,3 @@
+pub mod Chips
+pub mod Calls
+pub mod Rules
