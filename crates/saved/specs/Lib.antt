@@ -1,0 +1,3 @@
+pub mod Record
+pub mod Rules
+pub mod Calls
