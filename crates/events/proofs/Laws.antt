@@ -1,0 +1,4 @@
+pub mod Text
+pub mod Events
+pub mod Files
+pub mod Example
