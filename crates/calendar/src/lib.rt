@@ -8,7 +8,7 @@ ghost use Rattle.calendar.specs.Update.{matches_byte, alarm_matches, update};
 use fields::Mode;
 
 // The clock's locations 0, 2, 4, 6, 7, 8 and 9.
-#[derive(Drop)]
+#[derive(Clone, Copy)]
 pub struct Clock {
     pub seconds: u8,
     pub minutes: u8,
@@ -20,7 +20,7 @@ pub struct Clock {
 }
 
 // The alarm's locations 1, 3 and 5.
-#[derive(Drop)]
+#[derive(Clone, Copy)]
 pub struct Alarm {
     pub seconds: u8,
     pub minutes: u8,
@@ -28,14 +28,14 @@ pub struct Alarm {
 }
 
 // The clock one second on, and whether this Sunday's repeated hour has been used.
-#[derive(Drop)]
+#[derive(Clone, Copy)]
 pub struct Advanced {
     pub clock: Clock,
     pub used: bool,
 }
 
 // What an update leaves: the clock, the mark of the repeated hour, and whether the alarm matches.
-#[derive(Drop)]
+#[derive(Clone, Copy)]
 pub struct Updated {
     pub clock: Clock,
     pub used: bool,

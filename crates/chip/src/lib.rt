@@ -7,42 +7,42 @@ use refusals::Refusal;
 use registers::{Regs, Verdict};
 
 // The registers, and the user RAM at locations 14 to 63.
-#[derive(Drop)]
+#[derive(Clone, Copy)]
 pub struct Chip {
     pub regs: Regs,
     pub ram: [u8; 50],
 }
 
 // What a read answers.
-#[derive(Drop)]
+#[derive(Clone, Copy)]
 pub enum ReadAnswer {
     Byte(u8),
     Refused(Refusal),
 }
 
 // What a write or a run answers.
-#[derive(Drop)]
+#[derive(Clone, Copy)]
 pub enum Answer {
     Done,
     Refused(Refusal),
 }
 
 // A read's answer, and the chip after it.
-#[derive(Drop)]
+#[derive(Clone, Copy)]
 pub struct ReadResult {
     pub answer: ReadAnswer,
     pub chip: Chip,
 }
 
 // A write's or a run's answer, and the chip after it.
-#[derive(Drop)]
+#[derive(Clone, Copy)]
 pub struct Outcome {
     pub answer: Answer,
     pub chip: Chip,
 }
 
 // The levels of the two output lines: IRQ asserted, SQW high.
-#[derive(Drop)]
+#[derive(Clone, Copy)]
 pub struct Levels {
     pub irq: bool,
     pub sqw: bool,

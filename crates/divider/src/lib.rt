@@ -9,7 +9,7 @@ const SPAN: u32 = 4194304;
 // Half the span: where the count is held, and so half a second before the first 1 Hz edge.
 const HALF: u32 = 2097152;
 
-#[derive(Drop)]
+#[derive(Clone, Copy)]
 pub struct Divider {
     pub count: u32,
 }

@@ -13,7 +13,7 @@ use refusals::Refusal;
 pub use text::put_line;
 
 // What a record gives: the number of its answer, the byte that its line shows, and the chip after it.
-#[derive(Drop)]
+#[derive(Clone, Copy)]
 pub struct Event {
     pub answer: u8,
     pub byte: u8,
@@ -21,14 +21,14 @@ pub struct Event {
 }
 
 // How far a file has come: the chip, and how many records have had their line.
-#[derive(Drop)]
+#[derive(Clone, Copy)]
 pub struct State {
     pub chip: Chip,
     pub done: u32,
 }
 
 // A state, and the end of the text in the buffer.
-#[derive(Drop)]
+#[derive(Clone, Copy)]
 pub struct Worked {
     pub state: State,
     pub end: usize,

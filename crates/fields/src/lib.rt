@@ -6,14 +6,14 @@ ghost use Rattle.fields.specs.Hours.{hour_of, hour_byte, hour_in_range};
 ghost use Rattle.fields.specs.Steps.{step, half_day_step, hour_step};
 
 // How the clock's bytes are to be read: bits DM and 24/12 of register B.
-#[derive(Drop)]
+#[derive(Clone, Copy)]
 pub struct Mode {
     pub binary: bool,
     pub hours24: bool,
 }
 
 // A field after an update, and whether it carries into the next one.
-#[derive(Drop)]
+#[derive(Clone, Copy)]
 pub struct Stepped {
     pub byte: u8,
     pub carries: bool,

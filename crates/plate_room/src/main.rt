@@ -27,7 +27,7 @@ const BINARY_24: Mode = Mode {
 };
 
 // What a number of updates leads to, and how often the date moved on the way.
-#[derive(Drop)]
+#[derive(Clone, Copy)]
 struct Walked {
     clock: Clock,
     moves: u32,

@@ -4,14 +4,14 @@ mod show;
 use chip::{Chip, ReadAnswer};
 
 // What a location is to be written with: its own address, or one byte for all.
-#[derive(Drop)]
+#[derive(Clone, Copy)]
 struct Pattern {
     own: bool,
     byte: u8,
 }
 
 // A chip, and the ticks after which one of its flags was up.
-#[derive(Drop)]
+#[derive(Clone, Copy)]
 struct Risen {
     chip: Chip,
     ticks: u32,

@@ -12,7 +12,7 @@ use refusals::Refusal;
 
 // All of the chip but its user RAM. Register A is kept without UIP, and C and D as their bits, so that UIP and IRQF are what
 // their rules say at every moment.
-#[derive(Drop)]
+#[derive(Clone, Copy)]
 pub struct Regs {
     pub clock: Clock,
     pub alarm: Alarm,
@@ -34,7 +34,7 @@ pub struct Regs {
 }
 
 // Whether a location may be read or written now.
-#[derive(Drop)]
+#[derive(Clone, Copy)]
 pub enum Verdict {
     Open,
     Refused(Refusal),

@@ -9,7 +9,7 @@ use events::State;
 use libc::{STDIN_FILENO, STDOUT_FILENO};
 
 // How far the program has come: the bytes left of a record that is not whole yet, and whether to read on.
-#[derive(Drop)]
+#[derive(Clone, Copy)]
 struct Progress {
     state: State,
     left: usize,
@@ -17,7 +17,7 @@ struct Progress {
 }
 
 // What a block leaves: the end of its text, and how many bytes at its start are of a record that is not whole yet.
-#[derive(Drop)]
+#[derive(Clone, Copy)]
 struct Block {
     state: State,
     end: usize,

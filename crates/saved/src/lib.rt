@@ -15,21 +15,21 @@ use registers::Regs;
 const SIZE: usize = 72;
 
 // What a load answers.
-#[derive(Drop)]
+#[derive(Clone, Copy)]
 pub enum LoadAnswer {
     Loaded,
     Refused(Refusal),
 }
 
 // A load's answer, and the chip that it found; beside a refusal the chip stands for nothing.
-#[derive(Drop)]
+#[derive(Clone, Copy)]
 pub struct LoadResult {
     pub answer: LoadAnswer,
     pub chip: Chip,
 }
 
 // What a save answers.
-#[derive(Drop)]
+#[derive(Clone, Copy)]
 pub enum SaveAnswer {
     Saved,
     Refused(Refusal),

@@ -10,28 +10,28 @@ use fields::Mode;
 use refusals::Refusal;
 
 // A weekday, 1 for Sunday, and the seconds that have passed in the century.
-#[derive(Drop)]
+#[derive(Clone, Copy)]
 pub struct Time {
     pub weekday: u32,
     pub seconds: u64,
 }
 
 // What seven bytes decode to.
-#[derive(Drop)]
+#[derive(Clone, Copy)]
 pub enum Decoded {
     Valid(Time),
     Refused(Refusal),
 }
 
 // How an encode ended.
-#[derive(Drop)]
+#[derive(Clone, Copy)]
 pub enum Encoded {
     Done,
     Refused(Refusal),
 }
 
 // A month and a date in it.
-#[derive(Drop)]
+#[derive(Clone, Copy)]
 pub struct Place {
     pub month: u8,
     pub date: u8,
