@@ -1,4 +1,6 @@
 // The seven clock bytes and their update: the month's end, one second on, the two daylight changes, and the alarm.
+#![tactic(auto)]
+
 ghost use Rattle.std.specs.Prelude.{◌≡◌, ◌<◌, ◌≤◌};
 ghost use Rattle.calendar.specs.Days.{is_leap, last_day, last_day_of};
 ghost use Rattle.calendar.specs.Advance.{ordinary};
@@ -54,6 +56,7 @@ fn is_leap(binary: bool, year: u8) -> bool
 }
 
 // The last day of a month from 1 to 12.
+#[tactic(auto, using(crate::proofs::Laws::Days::february_29, crate::proofs::Laws::Days::table_has_the_rest), unfolding(crate::specs::Days::last_days))]
 pub fn last_day(leap: bool, month: u8) -> u8
     requires { (1 ≤ month) × (month ≤ 12) }
     ensures { result ≡ last_day leap month }
@@ -66,6 +69,7 @@ pub fn last_day(leap: bool, month: u8) -> u8
 }
 
 // The last day of the month that the month and year bytes name.
+#[tactic(auto, using(fields::proofs::Laws::Ranges::range_fact), unfolding(crate::specs::Days::last_day_of))]
 pub fn last_day_of(binary: bool, month: u8, year: u8) -> u8
     ensures { result ≡ last_day_of binary month year }
 {
@@ -76,6 +80,7 @@ pub fn last_day_of(binary: bool, month: u8, year: u8) -> u8
 }
 
 // One second on, daylight saving apart.
+#[tactic(auto, using(crate::proofs::Laws::Days::last_day_of_is_28_to_31), unfolding(crate::specs::Advance::ordinary, crate::specs::Advance::one_second_on))]
 pub fn ordinary(mode: Mode, used: bool, clock: Clock) -> Advanced
     ensures { result ≡ ordinary mode used clock }
 {
@@ -138,6 +143,7 @@ fn at_hour(mode: Mode, hour: u8, clock: Clock) -> Clock
 }
 
 // Whether the spring change is due.
+#[tactic(auto, unfolding(crate::specs::Daylight::springs))]
 fn springs(mode: Mode, clock: Clock) -> bool
     ensures { result ≡ springs mode clock }
 {
@@ -146,6 +152,7 @@ fn springs(mode: Mode, clock: Clock) -> bool
 }
 
 // Whether the hour is to be repeated.
+#[tactic(auto, unfolding(crate::specs::Daylight::repeats))]
 fn repeats(mode: Mode, used: bool, clock: Clock) -> bool
     ensures { result ≡ repeats mode used clock }
 {
@@ -154,6 +161,7 @@ fn repeats(mode: Mode, used: bool, clock: Clock) -> bool
 }
 
 // One second on, with daylight saving where `dse` says so.
+#[tactic(auto, unfolding(crate::specs::Daylight::advance))]
 pub fn advance(mode: Mode, dse: bool, used: bool, clock: Clock) -> Advanced
     ensures { result ≡ advance mode dse used clock }
 {
@@ -183,6 +191,7 @@ fn matches_byte(alarm: u8, clock: u8) -> bool
 }
 
 // Whether the alarm matches the clock.
+#[tactic(auto, unfolding(crate::specs::Update::alarm_matches))]
 pub fn alarm_matches(alarm: Alarm, clock: Clock) -> bool
     ensures { result ≡ alarm_matches alarm clock }
 {
@@ -193,6 +202,7 @@ pub fn alarm_matches(alarm: Alarm, clock: Clock) -> bool
 }
 
 // A whole update of the clock.
+#[tactic(auto, unfolding(crate::specs::Update::update))]
 pub fn update(mode: Mode, dse: bool, used: bool, alarm: Alarm, clock: Clock) -> Updated
     ensures { result ≡ update mode dse used alarm clock }
 {

@@ -1,4 +1,6 @@
 // The chip by value, and every call on it but those of the saved record.
+#![tactic(auto)]
+
 ghost use Rattle.std.specs.Prelude.{◌≡◌, ◌<◌};
 ghost use Rattle.chip.specs.Chips.{location, fresh, written, ticked};
 ghost use Rattle.chip.specs.Calls.{read, write, run, pins, lines};
@@ -48,6 +50,7 @@ pub struct Levels {
     pub sqw: bool,
 }
 
+#[tactic(auto, unfolding(crate::specs::Chips::fresh))]
 pub fn fresh() -> Chip
     ensures { result ≡ fresh }
 {
@@ -59,6 +62,7 @@ pub fn fresh() -> Chip
 }
 
 // The byte that stands at a location.
+#[tactic(auto, using(crate::proofs::Laws::Locations::location_in_registers, crate::proofs::Laws::Locations::location_in_ram), unfolding(crate::specs::Chips::location, crate::specs::Chips::locations))]
 fn location(chip: Chip, address: u32) -> u8
     requires { address < 64 }
     ensures { result ≡ location chip address }
@@ -72,6 +76,7 @@ fn location(chip: Chip, address: u32) -> u8
     bytes[at]
 }
 
+#[tactic(auto, using(registers::proofs::Laws::Access::open_is_below_64), unfolding(crate::specs::Calls::read))]
 pub fn read(chip: Chip, address: u32) -> ReadResult
     ensures { result ≡ read chip address }
 {
@@ -93,6 +98,7 @@ pub fn read(chip: Chip, address: u32) -> ReadResult
 }
 
 // The chip with a byte written at a location, with all that this brings about.
+#[tactic(auto, unfolding(crate::specs::Chips::written))]
 fn written(chip: Chip, address: u32, value: u8) -> Chip
     requires { address < 64 }
     ensures { result ≡ written chip address value }
@@ -108,6 +114,7 @@ fn written(chip: Chip, address: u32, value: u8) -> Chip
     next
 }
 
+#[tactic(auto, using(registers::proofs::Laws::Access::open_is_below_64, registers::proofs::Laws::Access::write_open_is_open), unfolding(crate::specs::Calls::write))]
 pub fn write(chip: Chip, address: u32, value: u8) -> Outcome
     ensures { result ≡ write chip address value }
 {
@@ -125,6 +132,7 @@ pub fn write(chip: Chip, address: u32, value: u8) -> Outcome
 }
 
 // The pins at new levels: `reset` and `ps` are true where the pin is high.
+#[tactic(auto, unfolding(crate::specs::Calls::pins))]
 pub fn pins(chip: Chip, reset: bool, ps: bool) -> Chip
     ensures { result ≡ pins chip reset ps }
 {
@@ -134,6 +142,7 @@ pub fn pins(chip: Chip, reset: bool, ps: bool) -> Chip
     next
 }
 
+#[tactic(auto, unfolding(crate::specs::Calls::lines))]
 pub fn lines(chip: Chip) -> Levels
     ensures { result ≡ lines chip }
 {
@@ -161,6 +170,7 @@ pub fn ticked(chip: Chip) -> Chip
     c
 }
 
+#[tactic(auto, using(crate::proofs::Laws::Run::no_ticks, crate::proofs::Laws::Run::one_tick_more, crate::proofs::Laws::Run::ticks_work_on_registers), unfolding(crate::specs::Calls::run, crate::specs::Chips::ticks))]
 pub fn run(chip: Chip, count: u32) -> Outcome
     ensures { result ≡ run chip count }
 {

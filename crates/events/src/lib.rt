@@ -1,4 +1,6 @@
 // Event records: what one does to a chip, the line that it gives, and blocks of them.
+#![tactic(auto)]
+
 mod text;
 
 ghost use Rattle.std.specs.Prelude.{◌≡◌, ◌+◌, ◌*◌, ◌/◌, ◌%◌, ◌≤◌, length};
@@ -56,6 +58,7 @@ fn answer_number(answer: Answer) -> u8
 }
 
 // A read takes its answer apart: a refused one has no byte, and shows 255.
+#[tactic(auto, unfolding(chip::specs::Calls::read))]
 fn read_event(chip: Chip, address: u8) -> Event
     ensures { result ≡ read_event (read chip address) }
 {
@@ -77,6 +80,7 @@ fn read_event(chip: Chip, address: u8) -> Event
 }
 
 // A write of the value's low byte.
+#[tactic(auto, unfolding(chip::specs::Calls::write))]
 fn write_event(chip: Chip, address: u8, value: u8) -> Event
     ensures { result ≡ plain_event (write chip address value) }
 {
@@ -91,6 +95,7 @@ fn write_event(chip: Chip, address: u8, value: u8) -> Event
 }
 
 // A run of as many ticks as the whole value says.
+#[tactic(auto, unfolding(chip::specs::Calls::run))]
 fn run_event(chip: Chip, low: u8, high: u8) -> Event
     ensures { result ≡ plain_event (run chip (low + 256 * high)) }
 {
@@ -117,6 +122,7 @@ fn pins_event(chip: Chip, levels: u8) -> Event
 }
 
 // One record against a chip.
+#[tactic(auto, unfolding(crate::specs::Events::event_of))]
 pub fn apply(chip: Chip, kind: u8, address: u8, low: u8, high: u8) -> Event
     ensures { result ≡ event_of chip kind address low high }
 {
@@ -140,6 +146,7 @@ pub fn apply(chip: Chip, kind: u8, address: u8, low: u8, high: u8) -> Event
 }
 
 // Before the first record.
+#[tactic(auto, unfolding(crate::specs::Files::start))]
 pub fn start() -> State
     ensures { result ≡ start }
 {
@@ -150,6 +157,7 @@ pub fn start() -> State
 }
 
 // The line of a record from `at` on, with the levels of the chip that it leaves; the place after it.
+#[tactic(auto, using(crate::proofs::Laws::Text::line_is_short))]
 fn put_event(out: &mut [u8], at: usize, number: u32, event: Event) -> usize
     requires { at + line_room ≤ length out.old }
     ensures { (result ≡ at + length (line_of number event))
@@ -169,6 +177,7 @@ fn put_event(out: &mut [u8], at: usize, number: u32, event: Event) -> usize
 }
 
 // One record from a state on, with its line.
+#[tactic(auto, unfolding(crate::specs::Files::after, crate::specs::Files::line))]
 fn step(out: &mut [u8], at: usize, state: State, kind: u8, address: u8, low: u8, high: u8) -> Worked
     requires { at + line_room ≤ length out.old }
     ensures { (result.state ≡ after state kind address low high)
@@ -193,6 +202,7 @@ fn step(out: &mut [u8], at: usize, state: State, kind: u8, address: u8, low: u8,
 }
 
 // The records of a block, with their lines from the buffer's start on.
+#[tactic(auto, using(crate::proofs::Laws::Files::reached_start, crate::proofs::Laws::Files::four_left, crate::proofs::Laws::Files::reached_next, crate::proofs::Laws::Files::reached_end), unfolding(crate::specs::Files::state_after, crate::specs::Files::printed_from))]
 pub fn work(input: &[u8], out: &mut [u8], state: State) -> Worked
     requires { (length input.now % 4 ≡ 0) × (length input.now / 4 * line_room ≤ length out.old) }
     ensures { (result.state ≡ state_after state input.now)
@@ -233,6 +243,7 @@ pub fn finished(state: State) -> bool
 }
 
 // The line of a last part-record.
+#[tactic(auto, unfolding(crate::specs::Files::part_line))]
 pub fn part(out: &mut [u8], state: State) -> usize
     requires { line_room ≤ length out.old }
     ensures { (result ≡ length (part_line state))

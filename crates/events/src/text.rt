@@ -14,6 +14,7 @@ fn put_two(out: &mut [u8], at: usize, n: u32)
 }
 
 // Puts a number from `at` on, and answers the place after it. Two digits a turn halve the divisions, which wait for each other.
+#[tactic(auto, unfolding(crate::specs::Text::decimal, crate::specs::Text::digits))]
 fn put_number(out: &mut [u8], at: usize, n: u32) -> usize
     requires { at + length (decimal n) ≤ length out.old }
     ensures { (result ≡ at + length (decimal n)) × (out.new ≡ sets out.old at (decimal n)) }
@@ -32,6 +33,7 @@ fn put_number(out: &mut [u8], at: usize, n: u32) -> usize
 }
 
 // Puts a number and the space behind it.
+#[tactic(auto, using(crate::proofs::Laws::Text::field_length, crate::proofs::Laws::Text::field_put))]
 fn put_field(out: &mut [u8], at: usize, n: u32) -> usize
     requires { at + length (field n) ≤ length out.old }
     ensures { (result ≡ at + length (field n)) × (out.new ≡ sets out.old at (field n)) }
@@ -51,6 +53,7 @@ fn level(on: bool) -> u8
 }
 
 // Puts a line from `at` on, and answers the place after it.
+#[tactic(auto, using(crate::proofs::Laws::Text::line_length, crate::proofs::Laws::Text::line_put), unfolding(crate::specs::Text::line_text))]
 pub fn put_line(
     out: &mut [u8],
     at: usize,

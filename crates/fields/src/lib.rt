@@ -1,4 +1,6 @@
 // One byte of the clock in a mode: the number it stands for, the byte after it, and what it carries.
+#![tactic(auto)]
+
 ghost use Rattle.std.specs.Prelude.{◌≡◌, ◌<◌};
 ghost use Rattle.fields.specs.Modes.{mode_of};
 ghost use Rattle.fields.specs.Bytes.{value_of, byte_of, ordinary_next, in_range};
@@ -73,6 +75,7 @@ pub fn in_range(binary: bool, first: u8, last: u8, b: u8) -> bool
 }
 
 // A field that goes from `first` to `last`, after an update that carries into it or not.
+#[tactic(auto, using(crate::proofs::Laws::Bytes::byte_small), unfolding(crate::specs::Steps::step))]
 pub fn step(binary: bool, first: u8, last: u8, carried: bool, b: u8) -> Stepped
     requires { (first < 100) × (last < 100) }
     ensures { result ≡ step binary first last carried b }
@@ -96,6 +99,7 @@ pub fn step(binary: bool, first: u8, last: u8, carried: bool, b: u8) -> Stepped
 }
 
 // The hours on a twelve-hour clock, where a carry comes in.
+#[tactic(auto, using(crate::proofs::Laws::Bytes::hour_small, crate::proofs::Laws::Bytes::next_below), unfolding(crate::specs::Steps::half_day_step))]
 fn half_day_step(binary: bool, b: u8) -> Stepped
     ensures { result ≡ half_day_step binary b }
 {
@@ -120,6 +124,7 @@ fn half_day_step(binary: bool, b: u8) -> Stepped
 }
 
 // The hours, in either hour mode.
+#[tactic(auto, unfolding(crate::specs::Steps::hour_step))]
 pub fn hour_step(mode: Mode, carried: bool, b: u8) -> Stepped
     ensures { result ≡ hour_step mode carried b }
 {
@@ -146,6 +151,7 @@ pub fn hour_of(mode: Mode, b: u8) -> u8
 }
 
 // The hours byte of an hour from 0 to 23.
+#[tactic(auto, using(crate::proofs::Laws::Bytes::hour_small))]
 pub fn hour_byte(mode: Mode, x: u8) -> u8
     requires { x < 24 }
     ensures { result ≡ hour_byte mode x }

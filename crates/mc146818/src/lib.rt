@@ -1,4 +1,6 @@
 // What a C host links: each call loads the 72 bytes, makes one call of the chip, and stores the result in the same bytes.
+#![tactic(auto)]
+
 ghost use Rattle.std.specs.Prelude.{◌≡◌, cond};
 ghost use Rattle.chip.specs.Chips.{fresh};
 ghost use Rattle.saved.specs.Record.{record_of};
@@ -88,6 +90,7 @@ pub extern "C" fn mc146818_fresh(chip: &mut [u8; 72])
 }
 
 #[unsafe(no_mangle)]
+#[tactic(auto, unfolding(crate::specs::Calls::read))]
 pub extern "C" fn mc146818_read(chip: &mut [u8; 72], address: u32) -> u32
     ensures { host_of result chip.new ≡ read chip.old address }
 {
@@ -106,6 +109,7 @@ pub extern "C" fn mc146818_read(chip: &mut [u8; 72], address: u32) -> u32
 }
 
 #[unsafe(no_mangle)]
+#[tactic(auto, unfolding(crate::specs::Calls::write))]
 pub extern "C" fn mc146818_write(chip: &mut [u8; 72], address: u32, value: u8) -> u32
     ensures { host_of result chip.new ≡ write chip.old address value }
 {
@@ -124,6 +128,7 @@ pub extern "C" fn mc146818_write(chip: &mut [u8; 72], address: u32, value: u8) -
 }
 
 #[unsafe(no_mangle)]
+#[tactic(auto, unfolding(crate::specs::Calls::run))]
 pub extern "C" fn mc146818_run(chip: &mut [u8; 72], ticks: u32) -> u32
     ensures { host_of result chip.new ≡ run chip.old ticks }
 {
@@ -143,6 +148,7 @@ pub extern "C" fn mc146818_run(chip: &mut [u8; 72], ticks: u32) -> u32
 
 // Bit 0 of the levels is RESET, bit 1 is PS; 1 is high.
 #[unsafe(no_mangle)]
+#[tactic(auto, unfolding(crate::specs::Calls::pins))]
 pub extern "C" fn mc146818_pins(chip: &mut [u8; 72], levels: u32) -> u32
     ensures { host_of result chip.new ≡ pins chip.old levels }
 {
@@ -159,6 +165,7 @@ pub extern "C" fn mc146818_pins(chip: &mut [u8; 72], levels: u32) -> u32
 
 // Bit 0 of the byte is IRQ asserted, bit 1 is SQW high.
 #[unsafe(no_mangle)]
+#[tactic(auto, using(registers::proofs::Laws::Bits::placed_at_most), unfolding(crate::specs::Calls::lines))]
 pub extern "C" fn mc146818_lines(chip: &[u8; 72]) -> u32
     ensures { host_of result chip.now ≡ lines chip.now }
 {
@@ -172,6 +179,7 @@ pub extern "C" fn mc146818_lines(chip: &[u8; 72]) -> u32
 }
 
 #[unsafe(no_mangle)]
+#[tactic(auto, unfolding(crate::specs::Calls::load))]
 pub extern "C" fn mc146818_load(chip: &mut [u8; 72], input: &[u8]) -> u32
     ensures { host_of result chip.new ≡ load chip.old input.now }
 {
@@ -185,6 +193,7 @@ pub extern "C" fn mc146818_load(chip: &mut [u8; 72], input: &[u8]) -> u32
 }
 
 #[unsafe(no_mangle)]
+#[tactic(auto, unfolding(crate::specs::Calls::save))]
 pub extern "C" fn mc146818_save(chip: &[u8; 72], page: &mut [u8], offset: usize) -> u32
     ensures { host_of result page.new ≡ save chip.now page.old offset }
 {
@@ -198,6 +207,7 @@ pub extern "C" fn mc146818_save(chip: &[u8; 72], page: &mut [u8], offset: usize)
 
 // The mode is that of a register B byte.
 #[unsafe(no_mangle)]
+#[tactic(auto, unfolding(crate::specs::Calls::decode))]
 pub extern "C" fn mc146818_decode(bytes: &[u8], mode: u8) -> u64
     ensures { result ≡ decode bytes.now mode }
 {
@@ -205,6 +215,7 @@ pub extern "C" fn mc146818_decode(bytes: &[u8], mode: u8) -> u64
 }
 
 #[unsafe(no_mangle)]
+#[tactic(auto, unfolding(crate::specs::Calls::encode))]
 pub extern "C" fn mc146818_encode(bytes: &mut [u8], seconds: u64, weekday: u32, mode: u8) -> u32
     ensures { host_of result bytes.new ≡ encode bytes.old seconds weekday mode }
 {

@@ -1,10 +1,14 @@
 // The plate room's examples, as lines that the print shop can hold against its notes.
+#![tactic(auto)]
+
 mod text;
 
 ghost use Rattle.std.specs.Prelude.{◌≡◌};
 ghost use Rattle.times.specs.Times.{seconds_on};
 ghost use Rattle.times.specs.Calls.{clock_at};
 ghost use Rattle.plate_room.specs.Walk.{date_moved, date_moves};
+
+use std::io::{self, Write};
 
 use calendar::{Alarm, Clock};
 use fields::Mode;
@@ -33,6 +37,11 @@ struct Walked {
     moves: u32,
 }
 
+// Writes some bytes to standard output.
+fn write(rt: &impl Print, bytes: &[u8]) -> io::Result<()> {
+    io::writer(rt).write_all(bytes)
+}
+
 // The clock in seven bytes.
 fn clock_in(bytes: &[u8; 7]) -> Clock
     ensures { result ≡ clock_at bytes.now }
@@ -49,73 +58,79 @@ fn clock_in(bytes: &[u8; 7]) -> Clock
 }
 
 // Writes a mode, in the width of the longest.
-fn write_mode(mode: Mode) {
+fn write_mode(rt: &impl Print, mode: Mode) -> io::Result<()> {
     if mode.binary {
-        io::write_all(1, b"  binary  ");
+        write(rt, b"  binary  ")?;
     } else {
-        io::write_all(1, b"  BCD     ");
+        write(rt, b"  BCD     ")?;
     }
     if mode.hours24 {
-        io::write_all(1, b"24-hour  ");
+        write(rt, b"24-hour  ")?;
     } else {
-        io::write_all(1, b"12-hour  ");
+        write(rt, b"12-hour  ")?;
     }
+    Ok(())
 }
 
 // Writes the bytes of a clock.
-fn write_clock(clock: Clock) {
+fn write_clock(rt: &impl Print, clock: Clock) -> io::Result<()> {
     let text = text::clock_text(clock);
-    io::write_all(1, &text);
+    write(rt, &text)?;
+    Ok(())
 }
 
 // Writes the name and the mode of an example.
-fn write_name(name: &[u8], mode: Mode) {
-    io::write_all(1, name);
-    write_mode(mode);
+fn write_name(rt: &impl Print, name: &[u8], mode: Mode) -> io::Result<()> {
+    write(rt, name)?;
+    write_mode(rt, mode)?;
+    Ok(())
 }
 
 // Writes an example up to the end of its bytes.
-fn write_row(name: &[u8], mode: Mode, before: Clock, after: Clock) {
-    write_name(name, mode);
-    write_clock(before);
-    io::write_all(1, b" -> ");
-    write_clock(after);
+fn write_row(rt: &impl Print, name: &[u8], mode: Mode, before: Clock, after: Clock) -> io::Result<()> {
+    write_name(rt, name, mode)?;
+    write_clock(rt, before)?;
+    write(rt, b" -> ")?;
+    write_clock(rt, after)?;
+    Ok(())
 }
 
 // One update without daylight saving.
-fn show(name: &[u8], mode: Mode, bytes: &[u8; 7]) {
+fn show(rt: &impl Print, name: &[u8], mode: Mode, bytes: &[u8; 7]) -> io::Result<()> {
     let before = clock_in(bytes);
     let a = calendar::advance(mode, false, false, before);
-    write_row(name, mode, before, a.clock);
-    io::write_all(1, b"\n");
+    write_row(rt, name, mode, before, a.clock)?;
+    write(rt, b"\n")?;
+    Ok(())
 }
 
 // One update with daylight saving, and the mark of the repeated hour after it.
-fn show_daylight(name: &[u8], used: bool, bytes: &[u8; 7]) -> bool {
+fn show_daylight(rt: &impl Print, name: &[u8], used: bool, bytes: &[u8; 7]) -> io::Result<bool> {
     let before = clock_in(bytes);
     let a = calendar::advance(BCD_24, true, used, before);
-    write_row(name, BCD_24, before, a.clock);
+    write_row(rt, name, BCD_24, before, a.clock)?;
     if a.used {
-        io::write_all(1, b"  repeat used\n");
+        write(rt, b"  repeat used\n")?;
     } else {
-        io::write_all(1, b"  repeat not used\n");
+        write(rt, b"  repeat not used\n")?;
     }
-    a.used
+    Ok(a.used)
 }
 
 // One update with an alarm.
-fn show_alarm(name: &[u8], alarm: Alarm, bytes: &[u8; 7]) {
+fn show_alarm(rt: &impl Print, name: &[u8], alarm: Alarm, bytes: &[u8; 7]) -> io::Result<()> {
     let before = clock_in(bytes);
     let u = calendar::update(BCD_24, false, false, alarm, before);
-    write_row(name, BCD_24, before, u.clock);
-    io::write_all(1, b"  alarm ");
+    write_row(rt, name, BCD_24, before, u.clock)?;
+    write(rt, b"  alarm ")?;
     let text = text::alarm_text(alarm);
-    io::write_all(1, &text);
+    write(rt, &text)?;
     if u.matched {
-        io::write_all(1, b" matches\n");
+        write(rt, b" matches\n")?;
     } else {
-        io::write_all(1, b" does not match\n");
+        write(rt, b" does not match\n")?;
     }
+    Ok(())
 }
 
 // 1 where two dates differ, 0 where they are the same.
@@ -129,6 +144,7 @@ fn date_moved(before: u8, after: u8) -> u32
 }
 
 // A number of updates, daylight saving apart.
+#[tactic(auto, using(crate::proofs::WalkLaws::at_most_one, crate::proofs::WalkLaws::moved_once, crate::proofs::WalkLaws::one_more, crate::proofs::WalkLaws::one_more_move), unfolding(times::specs::Times::seconds_on, calendar::specs::Advance::ordinary, crate::specs::Walk::date_moves))]
 fn walk(mode: Mode, start: Clock, turns: u32) -> Walked
     ensures { (result.clock ≡ seconds_on mode turns start) × (result.moves ≡ date_moves mode turns start) }
 {
@@ -146,190 +162,181 @@ fn walk(mode: Mode, start: Clock, turns: u32) -> Walked
 }
 
 // A number of updates, and how often the date moved.
-fn show_walk(name: &[u8], mode: Mode, bytes: &[u8; 7], turns: u32) {
+fn show_walk(rt: &impl Print, name: &[u8], mode: Mode, bytes: &[u8; 7], turns: u32) -> io::Result<()> {
     let before = clock_in(bytes);
     let w = walk(mode, before, turns);
-    write_row(name, mode, before, w.clock);
-    io::write_all(1, b"  updates: ");
-    io::print_decimal(1, turns as u64);
-    io::write_all(1, b", date moves: ");
-    io::print_decimal(1, w.moves as u64);
-    io::write_all(1, b"\n");
+    write_row(rt, name, mode, before, w.clock)?;
+    write(rt, b"  updates: ")?;
+    print!(rt; "{}", turns as u64)?;
+    write(rt, b", date moves: ")?;
+    print!(rt; "{}", w.moves as u64)?;
+    write(rt, b"\n")?;
+    Ok(())
 }
 
 // Writes the number of an answer: 0, or that of a refusal.
-fn write_answer(number: u8) {
-    io::write_all(1, b" -> answer ");
-    io::print_decimal(1, number as u64);
-    io::write_all(1, b", ");
+fn write_answer(rt: &impl Print, number: u8) -> io::Result<()> {
+    write(rt, b" -> answer ")?;
+    print!(rt; "{}", number as u64)?;
+    write(rt, b", ")?;
+    Ok(())
 }
 
 // Writes a weekday and seconds.
-fn write_time(time: Time) {
-    io::write_all(1, b"weekday ");
-    io::print_decimal(1, time.weekday as u64);
-    io::write_all(1, b", seconds ");
-    io::print_decimal(1, time.seconds);
+fn write_time(rt: &impl Print, time: Time) -> io::Result<()> {
+    write(rt, b"weekday ")?;
+    print!(rt; "{}", time.weekday as u64)?;
+    write(rt, b", seconds ")?;
+    print!(rt; "{}", time.seconds)?;
+    Ok(())
 }
 
 // Seven bytes turned into a time.
-fn show_decode(name: &[u8], bytes: &[u8; 7]) {
-    write_name(name, BCD_24);
-    write_clock(clock_in(bytes));
+fn show_decode(rt: &impl Print, name: &[u8], bytes: &[u8; 7]) -> io::Result<()> {
+    write_name(rt, name, BCD_24)?;
+    write_clock(rt, clock_in(bytes))?;
     match times::decode(bytes, BCD_24) {
         Decoded::Valid(time) => {
-            write_answer(0);
-            write_time(time);
+            write_answer(rt, 0)?;
+            write_time(rt, time)?;
         }
         Decoded::Refused(refusal) => {
-            write_answer(refusals::number(refusal));
-            write_time(Time {
+            write_answer(rt, refusals::number(refusal))?;
+            write_time(rt, Time {
                 weekday: 0,
                 seconds: 0,
-            });
+            })?;
         }
     }
-    io::write_all(1, b"\n");
+    write(rt, b"\n")?;
+    Ok(())
 }
 
 // A time turned into seven bytes. They start as FF, so that zeros in them were written.
-fn show_encode(name: &[u8], time: Time) {
+fn show_encode(rt: &impl Print, name: &[u8], time: Time) -> io::Result<()> {
     let mut bytes = [0xFF; 7];
-    write_name(name, BCD_24);
-    write_time(time);
+    write_name(rt, name, BCD_24)?;
+    write_time(rt, time)?;
     match times::encode(&mut bytes, time, BCD_24) {
         Encoded::Done => {
-            write_answer(0);
+            write_answer(rt, 0)?;
         }
         Encoded::Refused(refusal) => {
-            write_answer(refusals::number(refusal));
+            write_answer(rt, refusals::number(refusal))?;
         }
     }
-    write_clock(clock_in(&bytes));
-    io::write_all(1, b"\n");
+    write_clock(rt, clock_in(&bytes))?;
+    write(rt, b"\n")?;
+    Ok(())
 }
 
 // The ends of days, months and years.
-fn ends() {
-    show(
-        b"Year's end            ",
+fn ends(rt: &impl Print) -> io::Result<()> {
+    show(rt, b"Year's end            ",
         BCD_24,
         b"\x59\x59\x23\x06\x31\x12\x99",
-    );
-    show(
-        b"28 February, year 00  ",
+    )?;
+    show(rt, b"28 February, year 00  ",
         BINARY_24,
         b"\x3B\x3B\x17\x02\x1C\x02\x00",
-    );
-    show(
-        b"28 February, year 01  ",
+    )?;
+    show(rt, b"28 February, year 01  ",
         BINARY_24,
         b"\x3B\x3B\x17\x04\x1C\x02\x01",
-    );
+    )?;
+    Ok(())
 }
 
 // The hours of a twelve-hour clock.
-fn half_days() {
-    show(
-        b"11 PM, date moves     ",
+fn half_days(rt: &impl Print) -> io::Result<()> {
+    show(rt, b"11 PM, date moves     ",
         BCD_12,
         b"\x59\x59\x91\x05\x15\x02\x79",
-    );
-    show(
-        b"11 AM, date stays     ",
+    )?;
+    show(rt, b"11 AM, date stays     ",
         BCD_12,
         b"\x59\x59\x11\x05\x15\x02\x79",
-    );
-    show(
-        b"12 AM, date stays     ",
+    )?;
+    show(rt, b"12 AM, date stays     ",
         BCD_12,
         b"\x59\x59\x12\x05\x15\x02\x79",
-    );
-    show(
-        b"12 PM, date stays     ",
+    )?;
+    show(rt, b"12 PM, date stays     ",
         BCD_12,
         b"\x59\x59\x92\x05\x15\x02\x79",
-    );
+    )?;
+    Ok(())
 }
 
 // The seconds in both data modes.
-fn seconds() {
-    show(
-        b"Seconds 09            ",
+fn seconds(rt: &impl Print) -> io::Result<()> {
+    show(rt, b"Seconds 09            ",
         BCD_24,
         b"\x09\x58\x05\x05\x15\x02\x79",
-    );
-    show(
-        b"Seconds 09            ",
+    )?;
+    show(rt, b"Seconds 09            ",
         BINARY_24,
         b"\x09\x3A\x05\x05\x0F\x02\x4F",
-    );
-    show(
-        b"Seconds 3C            ",
+    )?;
+    show(rt, b"Seconds 3C            ",
         BINARY_24,
         b"\x3C\x3A\x05\x05\x0F\x02\x4F",
-    );
+    )?;
+    Ok(())
 }
 
 // What the stand-in before this one got wrong: it moved the date at one as well.
-fn midnight() {
-    show_walk(
-        b"Midnight              ",
+fn midnight(rt: &impl Print) -> io::Result<()> {
+    show_walk(rt, b"Midnight              ",
         BCD_12,
         b"\x59\x59\x91\x05\x15\x02\x79",
         1,
-    );
-    show_walk(
-        b"One o'clock           ",
+    )?;
+    show_walk(rt, b"One o'clock           ",
         BCD_12,
         b"\x59\x59\x12\x06\x16\x02\x79",
         1,
-    );
-    show_walk(
-        b"Midnight to one       ",
+    )?;
+    show_walk(rt, b"Midnight to one       ",
         BCD_12,
         b"\x59\x59\x91\x05\x15\x02\x79",
         3601,
-    );
-    show_walk(
-        b"Noon to one           ",
+    )?;
+    show_walk(rt, b"Noon to one           ",
         BCD_12,
         b"\x59\x59\x11\x05\x15\x02\x79",
         3601,
-    );
+    )?;
+    Ok(())
 }
 
 // The two daylight changes.
-fn daylight() {
-    show_daylight(
-        b"DSE, 26 April         ",
+fn daylight(rt: &impl Print) -> io::Result<()> {
+    show_daylight(rt, b"DSE, 26 April         ",
         false,
         b"\x59\x59\x01\x01\x26\x04\x81",
-    );
-    show_daylight(
-        b"DSE, 23 April         ",
+    )?;
+    show_daylight(rt, b"DSE, 23 April         ",
         false,
         b"\x59\x59\x01\x01\x23\x04\x78",
-    );
-    let first = show_daylight(
-        b"DSE, October, first   ",
+    )?;
+    let first = show_daylight(rt, b"DSE, October, first   ",
         false,
         b"\x59\x59\x01\x01\x25\x10\x81",
-    );
-    let again = show_daylight(
-        b"DSE, October, again   ",
+    )?;
+    let again = show_daylight(rt, b"DSE, October, again   ",
         first,
         b"\x59\x59\x01\x01\x25\x10\x81",
-    );
-    show_daylight(
-        b"DSE, October, midnight",
+    )?;
+    show_daylight(rt, b"DSE, October, midnight",
         again,
         b"\x59\x59\x23\x01\x25\x10\x81",
-    );
+    )?;
+    Ok(())
 }
 
 // Alarm bytes that match any byte or one byte, and the time that they are held against.
-fn alarms() {
+fn alarms(rt: &impl Print) -> io::Result<()> {
     let any = Alarm {
         seconds: 0x21,
         minutes: 0xC0,
@@ -345,66 +352,59 @@ fn alarms() {
         minutes: 0x58,
         hours: 0x05,
     };
-    show_alarm(
-        b"Alarm C0              ",
+    show_alarm(rt, b"Alarm C0              ",
         any,
         b"\x20\x58\x05\x05\x15\x02\x79",
-    );
-    show_alarm(
-        b"Alarm BF              ",
+    )?;
+    show_alarm(rt, b"Alarm BF              ",
         one,
         b"\x20\x58\x05\x05\x15\x02\x79",
-    );
-    show_alarm(
-        b"Alarm BF at a BF      ",
+    )?;
+    show_alarm(rt, b"Alarm BF at a BF      ",
         one,
         b"\x20\xBF\x05\x05\x15\x02\x79",
-    );
-    show_alarm(
-        b"Alarm at the old time ",
+    )?;
+    show_alarm(rt, b"Alarm at the old time ",
         old,
         b"\x20\x58\x05\x05\x15\x02\x79",
-    );
+    )?;
+    Ok(())
 }
 
 // Times as numbers, and what is refused.
-fn numbers() {
-    show_decode(b"15 February 79        ", b"\x21\x58\x05\x05\x15\x02\x79");
-    show_decode(b"Seconds 0A            ", b"\x0A\x58\x05\x05\x15\x02\x79");
-    show_decode(b"30 February 79        ", b"\x21\x58\x05\x05\x30\x02\x79");
-    show_encode(
-        b"15 February 79        ",
+fn numbers(rt: &impl Print) -> io::Result<()> {
+    show_decode(rt, b"15 February 79        ", b"\x21\x58\x05\x05\x15\x02\x79")?;
+    show_decode(rt, b"Seconds 0A            ", b"\x0A\x58\x05\x05\x15\x02\x79")?;
+    show_decode(rt, b"30 February 79        ", b"\x21\x58\x05\x05\x30\x02\x79")?;
+    show_encode(rt, b"15 February 79        ",
         Time {
             weekday: 5,
             seconds: 2496981501,
         },
-    );
-    show_encode(
-        b"Weekday 8             ",
+    )?;
+    show_encode(rt, b"Weekday 8             ",
         Time {
             weekday: 8,
             seconds: 2496981501,
         },
-    );
-    show_encode(
-        b"A second too late     ",
+    )?;
+    show_encode(rt, b"A second too late     ",
         Time {
             weekday: 5,
             seconds: 3155760000,
         },
-    );
+    )?;
+    Ok(())
 }
 
-fn main() {
-    io::write_all(
-        1,
-        b"Bytes in hex: seconds minutes hours weekday date month year\n",
-    );
-    ends();
-    half_days();
-    seconds();
-    midnight();
-    daylight();
-    alarms();
-    numbers();
+fn main(rt: HostRuntime) -> io::Result<()> {
+    write(&rt, b"Bytes in hex: seconds minutes hours weekday date month year\n")?;
+    ends(&rt)?;
+    half_days(&rt)?;
+    seconds(&rt)?;
+    midnight(&rt)?;
+    daylight(&rt)?;
+    alarms(&rt)?;
+    numbers(&rt)?;
+    Ok(())
 }

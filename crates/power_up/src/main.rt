@@ -1,5 +1,9 @@
 // What the platesetter's firmware does at power-up, and what the chip answers.
+#![tactic(auto)]
+
 mod show;
+
+use std::io::{self, Write};
 
 use chip::{Chip, ReadAnswer};
 
@@ -19,20 +23,25 @@ struct Risen {
 
 // ---- single calls
 
+// Writes some bytes to standard output.
+fn write(rt: &impl Print, bytes: &[u8]) -> io::Result<()> {
+    io::writer(rt).write_all(bytes)
+}
+
 // Writes a location, and shows the answer.
-fn put(chip: Chip, address: u32, byte: u8) -> Chip {
+fn put(rt: &impl Print, chip: Chip, address: u32, byte: u8) -> io::Result<Chip> {
     let done = chip::write(chip, address, byte);
     let answer = done.answer;
-    show::answer(answer);
-    done.chip
+    show::answer(rt, answer)?;
+    Ok(done.chip)
 }
 
 // Reads a location, and shows the byte or the refusal.
-fn get(chip: Chip, address: u32) -> Chip {
+fn get(rt: &impl Print, chip: Chip, address: u32) -> io::Result<Chip> {
     let done = chip::read(chip, address);
     let answer = done.answer;
-    show::read(answer);
-    done.chip
+    show::read(rt, answer)?;
+    Ok(done.chip)
 }
 
 // Writes a register at the start of a part. The firmware does not look at the answer.
@@ -51,183 +60,188 @@ fn byte_for(pattern: Pattern, address: u32) -> u8 {
 }
 
 // Writes the 16 locations from `first` on.
-fn put_row(chip: Chip, first: u32, pattern: Pattern) -> Chip {
-    io::write_all(1, b" ");
+#[tactic(auto, using(std::proofs::Common::arith, std::proofs::Common::rules))]
+fn put_row(rt: &impl Print, chip: Chip, first: u32, pattern: Pattern) -> io::Result<Chip> {
+    write(rt, b" ")?;
     let mut c = chip;
     for i in 0..16 {
         let address = std::num::wrapping_add_u32(first, i);
-        c = put(c, address, byte_for(pattern, address));
+        c = put(rt, c, address, byte_for(pattern, address))?;
     }
-    c
+    Ok(c)
 }
 
 // Reads the 16 locations from `first` on.
-fn get_row(chip: Chip, first: u32) -> Chip {
-    io::write_all(1, b"  ");
-    io::print_hex(1, first as u64, 2);
-    io::write_all(1, b" ");
+#[tactic(auto, using(std::proofs::Common::arith, std::proofs::Common::rules))]
+fn get_row(rt: &impl Print, chip: Chip, first: u32) -> io::Result<Chip> {
+    write(rt, b"  ")?;
+    print!(rt; "{:02x}", first as u64)?;
+    write(rt, b" ")?;
     let mut c = chip;
     for i in 0..16 {
-        c = get(c, std::num::wrapping_add_u32(first, i));
+        c = get(rt, c, std::num::wrapping_add_u32(first, i))?;
     }
-    io::write_all(1, b"\n");
-    c
+    write(rt, b"\n")?;
+    Ok(c)
 }
 
 // Writes addresses that there are not.
-fn put_beyond(chip: Chip, byte: u8) -> Chip {
-    io::write_all(1, b" ");
-    let a = put(chip, 64, byte);
-    let b = put(a, 65, byte);
-    let c = put(b, 127, byte);
-    let d = put(c, 255, byte);
-    let e = put(d, 65535, byte);
-    let f = put(e, 4294967295, byte);
-    io::write_all(1, b"\n");
-    f
+fn put_beyond(rt: &impl Print, chip: Chip, byte: u8) -> io::Result<Chip> {
+    write(rt, b" ")?;
+    let a = put(rt, chip, 64, byte)?;
+    let b = put(rt, a, 65, byte)?;
+    let c = put(rt, b, 127, byte)?;
+    let d = put(rt, c, 255, byte)?;
+    let e = put(rt, d, 65535, byte)?;
+    let f = put(rt, e, 4294967295, byte)?;
+    write(rt, b"\n")?;
+    Ok(f)
 }
 
 // Reads addresses that there are not.
-fn get_beyond(chip: Chip) -> Chip {
-    io::write_all(1, b"  xx ");
-    let a = get(chip, 64);
-    let b = get(a, 65);
-    let c = get(b, 127);
-    let d = get(c, 255);
-    let e = get(d, 65535);
-    let f = get(e, 4294967295);
-    io::write_all(1, b"\n");
-    f
+fn get_beyond(rt: &impl Print, chip: Chip) -> io::Result<Chip> {
+    write(rt, b"  xx ")?;
+    let a = get(rt, chip, 64)?;
+    let b = get(rt, a, 65)?;
+    let c = get(rt, b, 127)?;
+    let d = get(rt, c, 255)?;
+    let e = get(rt, d, 65535)?;
+    let f = get(rt, e, 4294967295)?;
+    write(rt, b"\n")?;
+    Ok(f)
 }
 
 // Writes every location, and shows the answers on one line.
-fn put_all(chip: Chip, pattern: Pattern) -> Chip {
-    let a = put_row(chip, 0, pattern);
-    let b = put_row(a, 16, pattern);
-    let c = put_row(b, 32, pattern);
-    let d = put_row(c, 48, pattern);
-    put_beyond(d, pattern.byte)
+fn put_all(rt: &impl Print, chip: Chip, pattern: Pattern) -> io::Result<Chip> {
+    let a = put_row(rt, chip, 0, pattern)?;
+    let b = put_row(rt, a, 16, pattern)?;
+    let c = put_row(rt, b, 32, pattern)?;
+    let d = put_row(rt, c, 48, pattern)?;
+    Ok(put_beyond(rt, d, pattern.byte)?)
 }
 
 // Reads every location, and shows a line for 16 of them.
-fn get_all(chip: Chip) -> Chip {
-    let a = get_row(chip, 0);
-    let b = get_row(a, 16);
-    let c = get_row(b, 32);
-    let d = get_row(c, 48);
-    get_beyond(d)
+fn get_all(rt: &impl Print, chip: Chip) -> io::Result<Chip> {
+    let a = get_row(rt, chip, 0)?;
+    let b = get_row(rt, a, 16)?;
+    let c = get_row(rt, b, 32)?;
+    let d = get_row(rt, c, 48)?;
+    Ok(get_beyond(rt, d)?)
 }
 
 // Writes one byte to every location, and reads all of them.
-fn fill(chip: Chip, byte: u8) -> Chip {
-    io::print_hex(1, byte as u64, 2);
-    io::write_all(1, b" to all:");
-    let c = put_all(chip, Pattern { own: false, byte });
-    get_all(c)
+fn fill(rt: &impl Print, chip: Chip, byte: u8) -> io::Result<Chip> {
+    print!(rt; "{:02x}", byte as u64)?;
+    write(rt, b" to all:")?;
+    let c = put_all(rt, chip, Pattern { own: false, byte })?;
+    Ok(get_all(rt, c)?)
 }
 
 // Writes to every location its own address, so that no two of them can be one, and reads all of them.
-fn fill_own(chip: Chip) -> Chip {
-    io::write_all(1, b"own address to all:");
-    let c = put_all(chip, Pattern { own: true, byte: 0 });
-    get_all(c)
+fn fill_own(rt: &impl Print, chip: Chip) -> io::Result<Chip> {
+    write(rt, b"own address to all:")?;
+    let c = put_all(rt, chip, Pattern { own: true, byte: 0 })?;
+    Ok(get_all(rt, c)?)
 }
 
-fn locations() -> Chip {
-    io::write_all(1, b"Every location of a fresh chip\n");
-    let a = get_all(chip::fresh());
-    let b = fill(a, 0x00);
-    let c = fill(b, 0x55);
-    let d = fill(c, 0xAA);
-    let e = fill(d, 0xFF);
-    let f = fill(e, 0x26);
-    let g = fill(f, 0x06);
+fn locations(rt: &impl Print) -> io::Result<Chip> {
+    write(rt, b"Every location of a fresh chip\n")?;
+    let a = get_all(rt, chip::fresh())?;
+    let b = fill(rt, a, 0x00)?;
+    let c = fill(rt, b, 0x55)?;
+    let d = fill(rt, c, 0xAA)?;
+    let e = fill(rt, d, 0xFF)?;
+    let f = fill(rt, e, 0x26)?;
+    let g = fill(rt, f, 0x06)?;
     // SET goes up here, as it did not at the first FF: UIE stays 0.
-    let h = fill(g, 0xFF);
-    fill_own(h)
+    let h = fill(rt, g, 0xFF)?;
+    Ok(fill_own(rt, h)?)
 }
 
 // ---- the pins
 
 // Names the levels of the pins, and sets them.
-fn pins(chip: Chip, reset: bool, ps: bool) -> Chip {
-    io::write_all(1, b"RESET ");
-    show::level(reset);
-    io::write_all(1, b", PS ");
-    show::level(ps);
-    io::write_all(1, b"\n");
-    chip::pins(chip, reset, ps)
+fn pins(rt: &impl Print, chip: Chip, reset: bool, ps: bool) -> io::Result<Chip> {
+    write(rt, b"RESET ")?;
+    show::level(rt, reset)?;
+    write(rt, b", PS ")?;
+    show::level(rt, ps)?;
+    write(rt, b"\n")?;
+    Ok(chip::pins(chip, reset, ps))
 }
 
 // All is refused while RESET is low. After it the enables are 0 and the rest is as it was.
-fn reset(chip: Chip) {
-    io::write_all(1, b"\nRESET on a chip with all enables on\n");
+fn reset(rt: &impl Print, chip: Chip) -> io::Result<()> {
+    write(rt, b"\nRESET on a chip with all enables on\n")?;
     let a = set_up(chip, 11, 0x7E);
-    let b = get_row(a, 0);
-    let c = pins(b, false, true);
-    let d = fill(c, 0x55);
-    let e = pins(d, true, true);
-    get_all(e);
+    let b = get_row(rt, a, 0)?;
+    let c = pins(rt, b, false, true)?;
+    let d = fill(rt, c, 0x55)?;
+    let e = pins(rt, d, true, true)?;
+    get_all(rt, e)?;
+    Ok(())
 }
 
 // Register D, read twice.
-fn valid_time(chip: Chip) -> Chip {
-    io::write_all(1, b"  D:");
-    let a = get(chip, 13);
-    let b = get(a, 13);
-    io::write_all(1, b"\n");
-    b
+fn valid_time(rt: &impl Print, chip: Chip) -> io::Result<Chip> {
+    write(rt, b"  D:")?;
+    let a = get(rt, chip, 13)?;
+    let b = get(rt, a, 13)?;
+    write(rt, b"\n")?;
+    Ok(b)
 }
 
-fn power_sense() {
-    io::write_all(1, b"\nPower sense and VRT on a fresh chip, D read twice\n");
-    let a = valid_time(chip::fresh());
-    let b = pins(a, true, false);
-    let c = valid_time(b);
-    let d = pins(c, true, true);
-    valid_time(d);
+fn power_sense(rt: &impl Print) -> io::Result<()> {
+    write(rt, b"\nPower sense and VRT on a fresh chip, D read twice\n")?;
+    let a = valid_time(rt, chip::fresh())?;
+    let b = pins(rt, a, true, false)?;
+    let c = valid_time(rt, b)?;
+    let d = pins(rt, c, true, true)?;
+    valid_time(rt, d)?;
+    Ok(())
 }
 
 // ---- ticks
 
 // Shows the seconds, A and C, and the lines as they were before C was read.
-fn look(chip: Chip) -> Chip {
-    io::write_all(1, b"  seconds");
-    let a = get(chip, 0);
-    io::write_all(1, b"  A");
-    let b = get(a, 10);
-    show::lines(b);
-    io::write_all(1, b"  C");
-    let c = get(b, 12);
-    io::write_all(1, b"\n");
-    c
+fn look(rt: &impl Print, chip: Chip) -> io::Result<Chip> {
+    write(rt, b"  seconds")?;
+    let a = get(rt, chip, 0)?;
+    write(rt, b"  A")?;
+    let b = get(rt, a, 10)?;
+    show::lines(rt, b)?;
+    write(rt, b"  C")?;
+    let c = get(rt, b, 12)?;
+    write(rt, b"\n")?;
+    Ok(c)
 }
 
 // Runs from one tick to a later one, and looks.
-fn to_tick(chip: Chip, from: u32, to: u32) -> Chip {
+fn to_tick(rt: &impl Print, chip: Chip, from: u32, to: u32) -> io::Result<Chip> {
     if to < from {
-        return chip;
+        return Ok(chip);
     }
     let done = chip::run(chip, to - from);
-    io::write_all(1, b"  tick ");
-    io::print_decimal(1, to as u64);
-    io::write_all(1, b":");
-    look(done.chip)
+    write(rt, b"  tick ")?;
+    print!(rt; "{}", to as u64)?;
+    write(rt, b":")?;
+    Ok(look(rt, done.chip)?)
 }
 
 // Runs some ticks, and shows the answer.
-fn run(chip: Chip, ticks: u32) -> Chip {
-    io::write_all(1, b"  ");
-    io::print_decimal(1, ticks as u64);
-    io::write_all(1, b" ticks: ");
+fn run(rt: &impl Print, chip: Chip, ticks: u32) -> io::Result<Chip> {
+    write(rt, b"  ")?;
+    print!(rt; "{}", ticks as u64)?;
+    write(rt, b" ticks: ")?;
     let done = chip::run(chip, ticks);
     let answer = done.answer;
-    show::answer(answer);
-    io::write_all(1, b"\n");
-    done.chip
+    show::answer(rt, answer)?;
+    write(rt, b"\n")?;
+    Ok(done.chip)
 }
 
 // Ticks one at a time, with a read of C after each, until a flag is up.
+#[tactic(auto, using(std::proofs::Common::arith, std::proofs::Common::rules))]
 fn until_flag(chip: Chip, most: u32) -> Risen {
     let mut c = chip;
     let mut i: u32 = 0;
@@ -252,12 +266,12 @@ fn until_flag(chip: Chip, most: u32) -> Risen {
 }
 
 // Shows after how many ticks the next flag is up.
-fn next_flag(chip: Chip) -> Chip {
+fn next_flag(rt: &impl Print, chip: Chip) -> io::Result<Chip> {
     let risen = until_flag(chip, 65536);
-    io::write_all(1, b"  next flag after ");
-    io::print_decimal(1, risen.ticks as u64);
-    io::write_all(1, b" ticks\n");
-    risen.chip
+    write(rt, b"  next flag after ")?;
+    print!(rt; "{}", risen.ticks as u64)?;
+    write(rt, b" ticks\n")?;
+    Ok(risen.chip)
 }
 
 // A fresh chip, its divider still held, with B written.
@@ -266,118 +280,122 @@ fn ready(b: u8) -> Chip {
 }
 
 // Writes the first and the last clock location, A and a RAM location.
-fn put_in_window(chip: Chip) -> Chip {
-    io::write_all(1, b"  writes to 00 09 0a 0e: ");
-    let a = put(chip, 0, 0x30);
-    let b = put(a, 9, 0x79);
-    let c = put(b, 10, 0x20);
-    let d = put(c, 14, 0xA5);
-    io::write_all(1, b"\n");
-    d
+fn put_in_window(rt: &impl Print, chip: Chip) -> io::Result<Chip> {
+    write(rt, b"  writes to 00 09 0a 0e: ")?;
+    let a = put(rt, chip, 0, 0x30)?;
+    let b = put(rt, a, 9, 0x79)?;
+    let c = put(rt, b, 10, 0x20)?;
+    let d = put(rt, c, 14, 0xA5)?;
+    write(rt, b"\n")?;
+    Ok(d)
 }
 
 // The first two updates after release, and the closed window before each.
-fn updates() {
-    io::write_all(1, b"\n32.768 kHz from release, SET 0\n");
+fn updates(rt: &impl Print) -> io::Result<()> {
+    write(rt, b"\n32.768 kHz from release, SET 0\n")?;
     let a = set_up(ready(0x02), 10, 0x20);
-    let b = to_tick(a, 0, 16383);
-    let c = to_tick(b, 16383, 16384);
-    let d = to_tick(c, 16384, 16391);
-    let e = to_tick(d, 16391, 16392);
-    let f = to_tick(put_in_window(e), 16392, 16456);
-    let g = to_tick(f, 16456, 16457);
-    let h = to_tick(g, 16457, 49152);
-    let i = to_tick(h, 49152, 49224);
-    to_tick(i, 49224, 49225);
-    io::write_all(1, b"tick by tick\n");
-    let one = next_flag(a);
-    next_flag(one);
+    let b = to_tick(rt, a, 0, 16383)?;
+    let c = to_tick(rt, b, 16383, 16384)?;
+    let d = to_tick(rt, c, 16384, 16391)?;
+    let e = to_tick(rt, d, 16391, 16392)?;
+    let f = to_tick(rt, put_in_window(rt, e)?, 16392, 16456)?;
+    let g = to_tick(rt, f, 16456, 16457)?;
+    let h = to_tick(rt, g, 16457, 49152)?;
+    let i = to_tick(rt, h, 49152, 49224)?;
+    to_tick(rt, i, 49224, 49225)?;
+    write(rt, b"tick by tick\n")?;
+    let one = next_flag(rt, a)?;
+    next_flag(rt, one)?;
+    Ok(())
 }
 
 // The held divider stands still, and SET 1 lets no update begin.
-fn no_updates() {
-    io::write_all(1, b"\nDivider held, then SET 1\n");
-    let a = to_tick(ready(0x02), 0, 65536);
+fn no_updates(rt: &impl Print) -> io::Result<()> {
+    write(rt, b"\nDivider held, then SET 1\n")?;
+    let a = to_tick(rt, ready(0x02), 0, 65536)?;
     let b = set_up(a, 11, 0x82);
     let c = set_up(b, 10, 0x20);
-    to_tick(c, 0, 16457);
+    to_tick(rt, c, 0, 16457)?;
+    Ok(())
 }
 
 // Runs on the slowest base to the wrap, where an update becomes pending, and goes over to the fastest base at count 0.
-fn at_count_zero() -> Chip {
+fn at_count_zero(rt: &impl Print) -> io::Result<Chip> {
     let a = set_up(ready(0x02), 10, 0x20);
-    let b = to_tick(a, 0, 16384);
-    io::write_all(1, b"4.194304 MHz, rate 1: the pending update is dropped\n");
+    let b = to_tick(rt, a, 0, 16384)?;
+    write(rt, b"4.194304 MHz, rate 1: the pending update is dropped\n")?;
     let c = set_up(b, 10, 0x01);
-    to_tick(c, 0, 0)
+    Ok(to_tick(rt, c, 0, 0)?)
 }
 
-fn periodic() {
-    io::write_all(1, b"\n32.768 kHz to count 0\n");
-    let a = next_flag(at_count_zero());
-    let b = next_flag(a);
-    let c = run(b, 65537);
-    let d = next_flag(c);
-    next_flag(d);
+fn periodic(rt: &impl Print) -> io::Result<()> {
+    write(rt, b"\n32.768 kHz to count 0\n")?;
+    let a = next_flag(rt, at_count_zero(rt)?)?;
+    let b = next_flag(rt, a)?;
+    let c = run(rt, b, 65537)?;
+    let d = next_flag(rt, c)?;
+    next_flag(rt, d)?;
+    Ok(())
 }
 
 // ---- interrupts and the square wave
 
 // An alarm at second 02 of any minute, first with AIE, then with UIE.
-fn alarm() {
-    io::write_all(1, b"\nAlarm at second 02, AIE\n");
+fn alarm(rt: &impl Print) -> io::Result<()> {
+    write(rt, b"\nAlarm at second 02, AIE\n")?;
     let a = set_up(ready(0x22), 1, 0x02);
     let b = set_up(a, 3, 0xC0);
     let c = set_up(b, 5, 0xFF);
     let d = set_up(c, 10, 0x20);
-    let e = to_tick(d, 0, 16457);
-    let f = to_tick(e, 16457, 49225);
-    let g = to_tick(f, 49225, 49225);
-    io::write_all(1, b"UIE\n");
+    let e = to_tick(rt, d, 0, 16457)?;
+    let f = to_tick(rt, e, 16457, 49225)?;
+    let g = to_tick(rt, f, 49225, 49225)?;
+    write(rt, b"UIE\n")?;
     let h = set_up(g, 11, 0x12);
-    let i = to_tick(h, 49225, 81993);
-    io::write_all(1, b"RESET low for one update\n");
+    let i = to_tick(rt, h, 49225, 81993)?;
+    write(rt, b"RESET low for one update\n")?;
     let j = chip::pins(i, false, true);
-    let k = to_tick(j, 81993, 114761);
+    let k = to_tick(rt, j, 81993, 114761)?;
     let l = chip::pins(k, true, true);
-    to_tick(l, 114761, 114761);
+    to_tick(rt, l, 114761, 114761)?;
+    Ok(())
 }
 
 // The level of the square wave after each of some ticks.
-fn wave(chip: Chip) -> Chip {
-    io::write_all(1, b"  SQW ");
+#[tactic(auto, using(std::proofs::Common::arith, std::proofs::Common::rules))]
+fn wave(rt: &impl Print, chip: Chip) -> io::Result<Chip> {
+    write(rt, b"  SQW ")?;
     let mut c = chip;
     for _ in 0u32..16 {
         let done = chip::run(c, 1);
         let next = done.chip;
         c = next;
         let levels = chip::lines(c);
-        show::level(levels.sqw);
+        show::level(rt, levels.sqw)?;
     }
-    io::write_all(1, b"\n");
-    c
+    write(rt, b"\n")?;
+    Ok(c)
 }
 
-fn square_wave() {
-    io::write_all(
-        1,
-        b"\nSquare wave on 32.768 kHz: rate 3, rate 4, rate 0, SQWE 0\n",
-    );
+fn square_wave(rt: &impl Print) -> io::Result<()> {
+    write(rt, b"\nSquare wave on 32.768 kHz: rate 3, rate 4, rate 0, SQWE 0\n")?;
     let a = set_up(ready(0x0A), 10, 0x23);
-    let b = wave(a);
-    let c = wave(set_up(b, 10, 0x24));
-    let d = wave(set_up(c, 10, 0x20));
+    let b = wave(rt, a)?;
+    let c = wave(rt, set_up(b, 10, 0x24))?;
+    let d = wave(rt, set_up(c, 10, 0x20))?;
     let e = set_up(d, 10, 0x23);
-    wave(set_up(e, 11, 0x02));
+    wave(rt, set_up(e, 11, 0x02))?;
+    Ok(())
 }
 
-fn main() {
-    let chip = locations();
-    reset(chip);
-    power_sense();
-    updates();
-    no_updates();
-    periodic();
-    alarm();
-    square_wave();
+fn main(rt: HostRuntime) -> io::Result<()> {
+    let chip = locations(&rt)?;
+    reset(&rt, chip)?;
+    power_sense(&rt)?;
+    updates(&rt)?;
+    no_updates(&rt)?;
+    periodic(&rt)?;
+    alarm(&rt)?;
+    square_wave(&rt)?;
+    Ok(())
 }

@@ -1,49 +1,61 @@
 // What the chip answers, as text.
+use std::io::{self, Write};
+
 use chip::{Answer, Chip, ReadAnswer};
 
+// Writes some bytes to standard output.
+fn write(rt: &impl Print, bytes: &[u8]) -> io::Result<()> {
+    io::writer(rt).write_all(bytes)
+}
+
 // Writes the number of a write's or a run's answer: 0, or that of its refusal.
-pub fn answer(given: Answer) {
+pub fn answer(rt: &impl Print, given: Answer) -> io::Result<()> {
     match given {
         Answer::Done => {
-            io::write_all(1, b"0");
+            write(rt, b"0")?;
         }
         Answer::Refused(why) => {
-            io::print_decimal(1, refusals::number(why) as u64);
+            print!(rt; "{}", refusals::number(why) as u64)?;
         }
     }
+    Ok(())
 }
 
 // Writes a refused read as the letter r and its number.
-fn refused(given: ReadAnswer) {
+fn refused(rt: &impl Print, given: ReadAnswer) -> io::Result<()> {
     if let ReadAnswer::Refused(why) = given {
-        io::write_all(1, b" r");
-        io::print_decimal(1, refusals::number(why) as u64);
+        write(rt, b" r")?;
+        print!(rt; "{}", refusals::number(why) as u64)?;
     }
+    Ok(())
 }
 
 // Writes a read byte in hex.
-pub fn read(given: ReadAnswer) {
+pub fn read(rt: &impl Print, given: ReadAnswer) -> io::Result<()> {
     let ReadAnswer::Byte(byte) = given else {
-        return refused(given);
+        return refused(rt, given);
     };
-    io::write_all(1, b" ");
-    io::print_hex(1, byte as u64, 2);
+    write(rt, b" ")?;
+    print!(rt; "{:02x}", byte as u64)?;
+    Ok(())
 }
 
 // Writes a level: 1 for asserted or high.
-pub fn level(on: bool) {
+pub fn level(rt: &impl Print, on: bool) -> io::Result<()> {
     if on {
-        io::write_all(1, b"1");
+        write(rt, b"1")?;
     } else {
-        io::write_all(1, b"0");
+        write(rt, b"0")?;
     }
+    Ok(())
 }
 
 // Writes the two output lines.
-pub fn lines(chip: Chip) {
+pub fn lines(rt: &impl Print, chip: Chip) -> io::Result<()> {
     let levels = chip::lines(chip);
-    io::write_all(1, b"  IRQ ");
-    level(levels.irq);
-    io::write_all(1, b"  SQW ");
-    level(levels.sqw);
+    write(rt, b"  IRQ ")?;
+    level(rt, levels.irq)?;
+    write(rt, b"  SQW ")?;
+    level(rt, levels.sqw)?;
+    Ok(())
 }

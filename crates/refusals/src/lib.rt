@@ -1,4 +1,6 @@
 // The refusals: every reason for which a call does not do its work, and the number that the host is told.
+#![tactic(auto)]
+
 ghost use Rattle.std.specs.Prelude.{◌≡◌};
 ghost use Rattle.refusals.specs.Numbers.{number_of};
 

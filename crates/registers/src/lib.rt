@@ -1,4 +1,6 @@
 // The registers by value: what stands at locations 0 to 13, who may read or write them when, and the two lines.
+#![tactic(auto)]
+
 ghost use Rattle.std.specs.Prelude.{◌≡◌, cond};
 ghost use Rattle.registers.specs.Bits.{dv_of, rate_of, set_on, pie_on, aie_on, uie_on, sqwe_on, dse_on};
 ghost use Rattle.registers.specs.Lines.{irqf, sqw};
@@ -83,6 +85,7 @@ fn chosen(first: bool, x: u8, y: u8) -> u8
 // ---- the lines
 
 // Whether the interrupt line is asserted.
+#[tactic(auto, unfolding(crate::specs::Lines::irqf))]
 pub fn irqf(regs: Regs) -> bool
     ensures { result ≡ irqf regs }
 {
@@ -91,6 +94,7 @@ pub fn irqf(regs: Regs) -> bool
 }
 
 // Whether the square wave is high.
+#[tactic(auto, unfolding(crate::specs::Lines::sqw))]
 pub fn sqw(regs: Regs) -> bool
     ensures { result ≡ sqw regs }
 {
@@ -100,12 +104,14 @@ pub fn sqw(regs: Regs) -> bool
 
 // ---- the locations
 
+#[tactic(auto, using(crate::proofs::Laws::Bits::placed_at_most))]
 fn register_a(regs: Regs) -> u8
     ensures { result ≡ register_a regs }
 {
     placed(regs.pending, 128) + regs.a % 128
 }
 
+#[tactic(auto, using(crate::proofs::Laws::Bits::placed_at_most))]
 fn register_c(regs: Regs) -> u8
     ensures { result ≡ register_c regs }
 {
@@ -117,6 +123,7 @@ fn register_c(regs: Regs) -> u8
 }
 
 // The bytes at locations 0 to 13.
+#[tactic(auto, unfolding(crate::specs::Locations::register_bytes))]
 pub fn register_bytes(regs: Regs) -> [u8; 14]
     ensures { result ≡ register_bytes regs }
 {
@@ -142,6 +149,7 @@ fn closed(regs: Regs) -> bool
 }
 
 // What a read and a write both ask.
+#[tactic(auto, unfolding(crate::specs::Access::access))]
 pub fn access(regs: Regs, address: u32) -> Verdict
     ensures { result ≡ access regs address }
 {
@@ -159,6 +167,7 @@ pub fn access(regs: Regs, address: u32) -> Verdict
 }
 
 // What a write asks.
+#[tactic(auto, unfolding(crate::specs::Access::write_access))]
 pub fn write_access(regs: Regs, address: u32, value: u8) -> Verdict
     ensures { result ≡ write_access regs address value }
 {
@@ -178,6 +187,7 @@ pub fn write_access(regs: Regs, address: u32, value: u8) -> Verdict
 
 // ---- what the calls leave
 
+#[tactic(auto, unfolding(crate::specs::Calls::fresh))]
 pub fn fresh() -> Regs
     ensures { result ≡ fresh }
 {
@@ -211,6 +221,7 @@ pub fn fresh() -> Regs
 }
 
 // Reading C clears its flags, and reading D sets VRT where PS is high.
+#[tactic(auto, unfolding(crate::specs::Calls::after_read))]
 pub fn after_read(regs: Regs, address: u32) -> Regs
     ensures { result ≡ after_read regs address }
 {
@@ -224,6 +235,7 @@ pub fn after_read(regs: Regs, address: u32) -> Regs
 }
 
 // A write to A. Other DV bits drop a pending update and rebase the count.
+#[tactic(auto, unfolding(crate::specs::Calls::write_a))]
 fn write_a(regs: Regs, value: u8) -> Regs
     ensures { result ≡ write_a regs value }
 {
@@ -241,6 +253,7 @@ fn write_a(regs: Regs, value: u8) -> Regs
 }
 
 // A write to B. SET going up drops a pending update and clears UIE.
+#[tactic(auto, unfolding(crate::specs::Calls::write_b))]
 fn write_b(regs: Regs, value: u8) -> Regs
     ensures { result ≡ write_b regs value }
 {
@@ -257,6 +270,7 @@ fn write_b(regs: Regs, value: u8) -> Regs
 }
 
 // A write to a clock or alarm location; any other address leaves all as it is.
+#[tactic(auto, unfolding(crate::specs::Calls::write_plain))]
 fn write_plain(regs: Regs, address: u32, value: u8) -> Regs
     ensures { result ≡ write_plain regs address value }
 {
@@ -283,6 +297,7 @@ fn write_plain(regs: Regs, address: u32, value: u8) -> Regs
 }
 
 // A write to any location; user RAM is not here, and so stays.
+#[tactic(auto, unfolding(crate::specs::Calls::written))]
 pub fn written(regs: Regs, address: u32, value: u8) -> Regs
     ensures { result ≡ written regs address value }
 {
@@ -296,6 +311,7 @@ pub fn written(regs: Regs, address: u32, value: u8) -> Regs
 }
 
 // The pins at new levels.
+#[tactic(auto, unfolding(crate::specs::Calls::with_pins))]
 pub fn with_pins(regs: Regs, reset: bool, ps: bool) -> Regs
     ensures { result ≡ with_pins regs reset ps }
 {

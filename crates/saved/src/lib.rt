@@ -1,4 +1,6 @@
 // The saved chip: a chip as a record of 72 bytes, the rules that a record keeps, and a record inside a page.
+#![tactic(auto)]
+
 ghost use Rattle.std.specs.Prelude.{◌≡◌, ◌+◌, ◌<◌, ◌≤◌, length};
 ghost use Rattle.std.proofs.Math.Seq.{paste};
 ghost use Rattle.saved.specs.Record.{bit_of, flags_of, tail_of, record_of, divider_in, regs_in, chip_of};
@@ -70,6 +72,7 @@ fn flags_of(regs: Regs) -> u8
 }
 
 // Bytes 64 to 71.
+#[tactic(auto, unfolding(crate::specs::Record::tail_of))]
 fn tail_of(regs: Regs) -> [u8; 8]
     ensures { result ≡ tail_of regs }
 {
@@ -82,6 +85,7 @@ fn tail_of(regs: Regs) -> [u8; 8]
 }
 
 // The record writer: fills the part with the chip's record.
+#[tactic(auto, using(crate::proofs::Laws::Parts::three_parts_fill), unfolding(crate::specs::Record::record_of, chip::specs::Chips::locations, crate::specs::Record::tail_of))]
 pub fn store(chip: Chip, part: &mut [u8])
     requires { length part.old ≡ record_size }
     ensures { part.new ≡ record_of chip }
@@ -103,6 +107,7 @@ fn wide(byte: u8) -> u32
 }
 
 // The divider whose count stands in bytes 64 to 66.
+#[tactic(auto, unfolding(crate::specs::Record::divider_in))]
 fn divider_in(input: &[u8]) -> Divider
     requires { length input.now ≡ record_size }
     ensures { result ≡ divider_in input.now }
@@ -113,6 +118,7 @@ fn divider_in(input: &[u8]) -> Divider
     divider::of_count(low + (middle * 256 + high * 65536))
 }
 
+#[tactic(auto, unfolding(crate::specs::Record::regs_in))]
 fn regs_in(input: &[u8]) -> Regs
     requires { length input.now ≡ record_size }
     ensures { result ≡ regs_in input.now }
@@ -148,6 +154,7 @@ fn regs_in(input: &[u8]) -> Regs
     }
 }
 
+#[tactic(auto, using(crate::proofs::Laws::Parts::part_fills), unfolding(crate::specs::Record::chip_of))]
 fn chip_of(input: &[u8]) -> Chip
     requires { length input.now ≡ record_size }
     ensures { result ≡ chip_of input.now }
@@ -242,6 +249,7 @@ fn spare_keeps(input: &[u8]) -> bool
         & ((input[68] == 0) & ((input[69] == 0) & ((input[70] == 0) & (input[71] == 0))))
 }
 
+#[tactic(auto, unfolding(crate::specs::Rules::keeps_rules))]
 fn keeps_rules(input: &[u8]) -> bool
     requires { length input.now ≡ record_size }
     ensures { result ≡ keeps_rules input.now }
@@ -260,6 +268,7 @@ fn keeps_rules(input: &[u8]) -> bool
 // ---- the calls
 
 // The chip that was saved.
+#[tactic(auto, unfolding(crate::specs::Calls::load))]
 pub fn load(input: &[u8]) -> LoadResult
     ensures { result ≡ load input.now }
 {
@@ -282,6 +291,7 @@ pub fn load(input: &[u8]) -> LoadResult
 }
 
 // Writes the chip's record at an offset inside a page.
+#[tactic(auto, using(crate::proofs::Laws::Parts::part_comes_back), unfolding(crate::specs::Calls::save))]
 pub fn save(chip: Chip, page: &mut [u8], offset: usize) -> SaveAnswer
     ensures { saving_of result page.new ≡ save chip page.old offset }
 {

@@ -1,10 +1,13 @@
 // One tick of the registers by value.
+#![tactic(auto)]
+
 ghost use Rattle.std.specs.Prelude.{◌≡◌};
 ghost use Rattle.ticks.specs.Tick.{updated, tick};
 
 use registers::Regs;
 
 // The update itself.
+#[tactic(auto, unfolding(crate::specs::Tick::updated))]
 fn updated(regs: Regs) -> Regs
     ensures { result ≡ updated regs }
 {
@@ -23,6 +26,7 @@ fn updated(regs: Regs) -> Regs
 
 // One tick: the count, PF, pending, the update. What has moved is put into the registers at once, since a chain of whole structs by
 // value costs ten times as much.
+#[tactic(auto, unfolding(crate::specs::Tick::counted, crate::specs::Tick::flagged, crate::specs::Tick::awaiting, crate::specs::Tick::finished, crate::specs::Tick::tick))]
 pub fn tick(regs: Regs) -> Regs
     ensures { result ≡ tick regs }
 {

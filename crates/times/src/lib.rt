@@ -1,4 +1,6 @@
 // Clock bytes and times: what seven bytes mean as a weekday and seconds, and the bytes of a weekday and seconds.
+#![tactic(auto)]
+
 ghost use Rattle.std.specs.Prelude.{◌≡◌, true, ◌+◌, ◌*◌, ◌<◌, ◌≤◌, length, replicate};
 ghost use Rattle.calendar.specs.Days.{last_days, leap_year};
 ghost use Rattle.times.specs.Days.{before, days_before_year, day_of, year_of, month_in, date_in};
@@ -38,6 +40,7 @@ pub struct Place {
 }
 
 // Whether the clock's bytes are a valid time.
+#[tactic(auto, unfolding(crate::specs::Times::is_valid))]
 pub fn is_valid(mode: Mode, clock: Clock) -> bool
     ensures { result ≡ is_valid mode clock }
 {
@@ -53,6 +56,7 @@ pub fn is_valid(mode: Mode, clock: Clock) -> bool
 }
 
 // Whether a time can be turned into bytes.
+#[tactic(auto, unfolding(crate::specs::Times::is_time))]
 pub fn is_time(time: Time) -> bool
     ensures { result ≡ is_time time }
 {
@@ -60,6 +64,7 @@ pub fn is_time(time: Time) -> bool
 }
 
 // The days of a year before its month i, January being month 0.
+#[tactic(auto, using(crate::proofs::Laws::Code::no_month, crate::proofs::Laws::Code::one_month_more), unfolding(calendar::specs::Days::last_days))]
 fn days_before_month(leap: bool, i: u8) -> u32
     requires { i ≤ 12 }
     ensures { result ≡ before (last_days leap) i }
@@ -74,6 +79,7 @@ fn days_before_month(leap: bool, i: u8) -> u32
 }
 
 // The days before a year.
+#[tactic(auto, using(crate::proofs::Laws::Days::years_closed), unfolding(crate::specs::Days::days_before_year))]
 fn days_before_year(y: u8) -> u32
     ensures { result ≡ days_before_year y }
 {
@@ -81,6 +87,7 @@ fn days_before_year(y: u8) -> u32
 }
 
 // The days from 1 January of year 00 to a date.
+#[tactic(auto, using(crate::proofs::Laws::Code::days_fit), unfolding(crate::specs::Days::day_of))]
 fn day_of(y: u8, month: u8, date: u8) -> u32
     requires { (y ≤ 99) × (1 ≤ month) × (month ≤ 12) × (1 ≤ date) }
     ensures { result ≡ day_of y month date }
@@ -98,6 +105,7 @@ fn seconds_of(day: u32, h: u8, n: u8, s: u8) -> u64
 }
 
 // The time that a valid clock tells.
+#[tactic(auto, using(fields::proofs::Laws::Hours::hour_below_24, crate::proofs::Laws::Days::day_below_36525, crate::proofs::Laws::Valid::valid_fact, crate::proofs::Laws::Valid::valid_date), unfolding(crate::specs::Times::time_of))]
 fn time_of(mode: Mode, clock: Clock) -> Time
     requires { is_valid mode clock ≡ true }
     ensures { result ≡ time_of mode clock }
@@ -117,6 +125,7 @@ fn time_of(mode: Mode, clock: Clock) -> Time
 }
 
 // The year that a day falls in.
+#[tactic(auto, unfolding(crate::specs::Days::year_of))]
 fn year_of(day: u32) -> u8
     requires { day < 36525 }
     ensures { result ≡ year_of day }
@@ -129,6 +138,7 @@ fn year_of(day: u32) -> u8
 }
 
 // The month and the date of a day of a year, the first being day 0.
+#[tactic(auto, using(crate::proofs::Laws::Code::reached_first, crate::proofs::Laws::Code::reached_next, crate::proofs::Laws::Code::reached_month, crate::proofs::Laws::Code::reached_date, crate::proofs::Laws::Code::reached_small), unfolding(crate::specs::Days::month_in, crate::specs::Days::date_in))]
 fn place_of(leap: bool, day: u32) -> Place
     requires { day < before (last_days leap) 12 }
     ensures { (result.month ≡ month_in leap day) × (result.date ≡ date_in leap day) }
@@ -148,6 +158,7 @@ fn place_of(leap: bool, day: u32) -> Place
 }
 
 // The clock that tells a time.
+#[tactic(auto, using(crate::proofs::Laws::Code::date_fits, crate::proofs::Laws::Days::year_starts_before, crate::proofs::Laws::Days::day_in_year, crate::proofs::Laws::Valid::time_fact), unfolding(crate::specs::Times::clock_of))]
 fn clock_of(mode: Mode, time: Time) -> Clock
     requires { is_time time ≡ true }
     ensures { result ≡ clock_of mode time }
@@ -189,6 +200,7 @@ fn clock_at(bytes: &[u8]) -> Clock
 }
 
 // Writes the clock into seven bytes.
+#[tactic(auto, using(crate::proofs::Laws::Code::seven_stores))]
 fn put_clock(bytes: &mut [u8], clock: Clock)
     requires { length bytes.old ≡ 7 }
     ensures { bytes.new ≡ bytes_of clock }
@@ -203,6 +215,7 @@ fn put_clock(bytes: &mut [u8], clock: Clock)
 }
 
 // Fills a buffer with zeros.
+#[tactic(auto, using(crate::proofs::Laws::Code::cleared_more, crate::proofs::Laws::Code::cleared_all))]
 fn clear(bytes: &mut [u8])
     ensures { bytes.new ≡ replicate (length bytes.old) 0 }
 {
@@ -214,6 +227,7 @@ fn clear(bytes: &mut [u8])
 }
 
 // Turns seven clock bytes into a time.
+#[tactic(auto, unfolding(crate::specs::Calls::decoded))]
 pub fn decode(bytes: &[u8], mode: Mode) -> Decoded
     ensures { result ≡ decoded mode bytes.now }
 {
@@ -228,6 +242,7 @@ pub fn decode(bytes: &[u8], mode: Mode) -> Decoded
 }
 
 // Turns a time into seven clock bytes, or fills the buffer with zeros.
+#[tactic(auto, unfolding(crate::specs::Calls::encoded))]
 pub fn encode(bytes: &mut [u8], time: Time, mode: Mode) -> Encoded
     ensures { encoding_of result bytes.new ≡ encoded mode time bytes.old }
 {
