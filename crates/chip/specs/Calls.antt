@@ -1,6 +1,5 @@
 -- The calls on a chip: answer and chip together, on every input.
 use Rattle.std.specs.Prelude.{Bool, cond, ℕ, ltb}
-use Rattle.refusals.specs.declared.Refusal.{Refusal}
 use Rattle.refusals.specs.declared.Refusal.TheVariants as refusal
 use Rattle.refusals.specs.Numbers.{number_of}
 use Rattle.registers.specs.declared.Verdict.{Verdict}

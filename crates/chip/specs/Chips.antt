@@ -1,5 +1,5 @@
 -- The chip: its 64 locations, and what writes and ticks make of it.
-use Rattle.std.specs.Prelude.{Bool, cond, List, ◌++◌, ℕ, zero, suc, ◌-◌, leb, get_or, set, replicate}
+use Rattle.std.specs.Prelude.{cond, List, ◌++◌, ℕ, zero, suc, ◌-◌, leb, get_or, set, replicate}
 use Rattle.registers.specs.Locations.{register_bytes}
 use Rattle.registers.specs.Calls as registers
 use Rattle.ticks.specs.Tick as tick

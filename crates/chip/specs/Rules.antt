@@ -1,5 +1,5 @@
 -- The record rules, as facts about a chip.
-use Rattle.std.specs.Prelude.{◌≡◌, Bool, true, false, ℕ, ◌%◌, ◌/◌, ◌<◌, leb, length}
+use Rattle.std.specs.Prelude.{◌≡◌, true, false, ◌%◌, ◌/◌, ◌<◌, leb, length}
 use Rattle.divider.specs.Divider.{running, test_pattern, keeps_count, before_end}
 use Rattle.registers.specs.Bits.{dv_of, set_on}
 use Rattle.registers.specs.Lines.{irqf}

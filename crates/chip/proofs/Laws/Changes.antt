@@ -1,31 +1,29 @@
 -- What the calls change, and what they leave alone.
 use mathlib.Core.Path.{◌≡◌, refl, sym, ap, ◌∙◌}
-use mathlib.Core.Bool.{Bool, true, false, cond, ◌&&◌, ◌||◌, not}
+use mathlib.Core.Bool.{Bool, true, false, ◌||◌, not}
 use mathlib.Core.Logic.{◌⊎◌, inl, inr}
 use mathlib.Core.List.{List, [], ◌∷◌, ◌++◌}
-use Prim.Native.Nat.{ℕ, zero, suc, ◌+◌, ◌-◌, ◌≤◌, ◌<◌}
+use Prim.Native.Nat.{ℕ, ◌+◌, ◌-◌, ◌≤◌, ◌<◌}
 use native.Mathlib.Nat.{zero-add, suc-add}
 use native.Mathlib.Omega.{arith}
-use lib.Dec.{eqb, leb, ltb}
-use lib.ListN.{length, get_or, set}
+use lib.Dec.{ltb}
+use lib.ListN.{length, set}
 use lib.Seq.{get_or-set_same, get_or-set_other}
 use borrow.Author.Tests.{le-leb, ne_eqb}
-use Rattle.cases.proofs.Tests.{either, leb_case, and_true, and_false, or_false}
+use Rattle.cases.proofs.Tests.{either, and_true, and_false, or_false}
 use Rattle.refusals.proofs.Laws.{refusal_has_number}
 use Rattle.registers.specs.declared.Regs.{Regs}
 use Rattle.registers.specs.declared.Verdict.{Verdict}
 use Rattle.registers.specs.declared.Verdict.TheVariants as verdict
-use Rattle.registers.specs.Locations.{register_c, register_bytes}
+use Rattle.registers.specs.Locations.{register_bytes}
 use Rattle.registers.specs.Lines.{irqf}
 use Rattle.registers.specs.Access.{access, write_access}
 use Rattle.registers.specs.With.{with_flags, with_vrt}
 use Rattle.registers.specs.Calls.{after_read, write_plain}
 use Rattle.registers.specs.Calls as registers
-use Rattle.ticks.specs.Tick as tick
 use Rattle.chip.specs.declared.Chip.{Chip}
-use Rattle.chip.specs.declared.Answer.TheVariants as plain
-use Rattle.chip.specs.Chips.{locations, location, written, ticks}
-use Rattle.chip.specs.Calls.{answer_number, read_by, read, write_by, write, run, pins, lines}
+use Rattle.chip.specs.Chips.{locations, location, written}
+use Rattle.chip.specs.Calls.{answer_number, read_by, read, write_by, write, run, pins}
 use Rattle.chip.proofs.Laws.Run.{ticks_work_on_registers}
 use Rattle.chip.proofs.Laws.Locations.{fourteen_registers}
 

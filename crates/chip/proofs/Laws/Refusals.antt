@@ -2,19 +2,17 @@
 use mathlib.Core.Path.{◌≡◌, refl}
 use mathlib.Core.Bool.{Bool, true, false, cond, ◌&&◌, ◌||◌}
 use mathlib.Core.Logic.{◌⊎◌, inl, inr}
-use Prim.Native.Nat.{ℕ, ◌<◌, ◌≤◌}
+use Prim.Native.Nat.{ℕ, ◌<◌}
 use native.Mathlib.Omega.{arith}
 use lib.Dec.{eqb, leb, ltb}
-use borrow.Author.Tests.{eqb-true, leb-true}
-use Rattle.cases.proofs.Tests.{either, and_left}
+use Rattle.cases.proofs.Tests.{either}
 use Rattle.refusals.specs.declared.Refusal.{Refusal}
-use Rattle.refusals.specs.declared.Refusal.TheVariants as refusal
 use Rattle.refusals.specs.Numbers.{number_of}
 use Rattle.divider.specs.Divider.{test_pattern}
 use Rattle.registers.specs.declared.Verdict.{Verdict}
 use Rattle.registers.specs.declared.Verdict.TheVariants as verdict
 use Rattle.registers.specs.Bits.{dv_of}
-use Rattle.registers.specs.Access.{closed, access, then_ask, write_access}
+use Rattle.registers.specs.Access.{closed, access, write_access}
 use Rattle.chip.specs.declared.Chip.{Chip}
 use Rattle.chip.specs.Calls.{read_number, answer_number, read_by, read, write_by, write, run}
 

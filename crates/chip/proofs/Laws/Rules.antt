@@ -1,28 +1,25 @@
 -- The record rules hold of a fresh chip, and every call leaves a chip that keeps them.
-use mathlib.Core.Path.{◌≡◌, refl, sym, ap, ◌∙◌}
-use mathlib.Core.Bool.{Bool, true, false, cond, ◌&&◌, ◌||◌}
+use mathlib.Core.Path.{◌≡◌, refl, sym, ◌∙◌}
+use mathlib.Core.Bool.{Bool, true, false, cond}
 use mathlib.Core.Logic.{◌⊎◌, inl, inr}
-use mathlib.Core.List.{List, [], ◌∷◌, ◌++◌}
-use Prim.Native.Nat.{ℕ, ◌+◌, ◌-◌, ◌*◌, ◌/◌, ◌%◌, ◌≤◌, ◌<◌}
+use Prim.Native.Nat.{ℕ, ◌+◌, ◌-◌, ◌*◌, ◌%◌, ◌≤◌, ◌<◌}
 use native.Mathlib.Omega.{arith}
-use lib.Dec.{eqb, leb, ltb}
-use lib.ListN.{length, get_or, set, replicate, length-set, length-replicate}
+use lib.Dec.{leb, ltb}
+use lib.ListN.{length, set, length-set, length-replicate}
 use borrow.Author.Tests.{le-leb, lt-leb}
-use Rattle.cases.proofs.Tests.{either, leb_case, ltb_case, and_false}
+use Rattle.cases.proofs.Tests.{either, leb_case, and_false}
 use Rattle.registers.specs.declared.Regs.{Regs}
 use Rattle.registers.specs.declared.Verdict.{Verdict}
 use Rattle.registers.specs.declared.Verdict.TheVariants as verdict
-use Rattle.registers.specs.Bits.{dv_of, set_on, pie_on, aie_on, uie_on}
+use Rattle.registers.specs.Bits.{dv_of, pie_on, aie_on, uie_on}
 use Rattle.registers.specs.Lines.{irqf}
-use Rattle.registers.specs.Locations.{register_a, register_c, register_d, register_bytes}
+use Rattle.registers.specs.Locations.{register_c, register_bytes}
 use Rattle.registers.specs.Access.{access, write_access}
-use Rattle.registers.specs.Calls as registers
 use Rattle.registers.proofs.Laws.Bits.{placed_at_most}
 use Rattle.registers.proofs.Laws.Sound.{Sound, fresh_is_sound, read_keeps_sound, pins_keep_sound, write_keeps_sound}
-use Rattle.ticks.specs.Tick as tick
 use Rattle.ticks.proofs.Laws.Sound.{ticks_keep_sound}
 use Rattle.chip.specs.declared.Chip.{Chip}
-use Rattle.chip.specs.Chips.{locations, location, fresh, written, ticked, ticks}
+use Rattle.chip.specs.Chips.{locations, location, fresh, written, ticks}
 use Rattle.chip.specs.Calls.{read_by, read, write_by, write, run, pins, lines}
 use Rattle.chip.specs.Rules.{Rules}
 use Rattle.chip.proofs.Laws.Run.{ticks_work_on_registers}
