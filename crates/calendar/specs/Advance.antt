@@ -1,5 +1,5 @@
 -- The clock one second on, daylight saving apart. Each field is carried into by the one before it.
-use Rattle.std.specs.Prelude.{Bool, true, ◌&&◌, not, ℕ}
+use Rattle.std.specs.Prelude.{Bool, true, ◌&&◌, not}
 use Rattle.fields.specs.declared.Mode.{Mode}
 use Rattle.fields.specs.declared.Stepped.{Stepped}
 use Rattle.fields.specs.Steps.{step, hour_step}

@@ -1,5 +1,5 @@
 -- The clock one second on, with daylight saving.
-use Rattle.std.specs.Prelude.{Bool, true, false, cond, ◌&&◌, not, ℕ, eqb}
+use Rattle.std.specs.Prelude.{Bool, true, cond, ◌&&◌, not, ℕ, eqb}
 use Rattle.fields.specs.declared.Mode.{Mode}
 use Rattle.fields.specs.Bytes.{byte_of, in_range}
 use Rattle.fields.specs.Hours.{hour_byte}

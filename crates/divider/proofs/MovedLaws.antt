@@ -7,7 +7,6 @@ use native.Mathlib.Omega.{arith}
 use Rattle.divider.specs.declared.Divider.{Divider}
 use Rattle.divider.specs.Divider.{span, running, step_of, moved}
 use Rattle.divider.proofs.Laws.Base.{running_is_base}
-use borrow.Author.Rules.{rules}
 
 pub fits : (dv n s : ℕ) (b : Bool) → b ≡ running dv → b ≡ true → s ≡ step_of dv → n % span + s < 2 ^ 32
 fits dv n s b p t e = omega (arith, (running_is_base dv (rw (← p) t)).step_at_most_128)

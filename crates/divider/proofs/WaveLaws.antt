@@ -8,7 +8,6 @@ use lib.Dec.{eqb}
 use lib.Pow.{pow_mono}
 use Rattle.divider.specs.declared.Divider.{Divider}
 use Rattle.divider.specs.Divider.{tap_of, wave}
-use borrow.Author.Rules.{rules}
 
 -- a count of 32 bits has no bit at such a tap
 pub above : (dv rate tap : ℕ) (d : Divider) → d.count < 2 ^ 32 → tap ≡ tap_of dv rate → 31 < tap → false ≡ wave dv rate d

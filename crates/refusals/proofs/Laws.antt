@@ -1,6 +1,6 @@
 -- The numbers of the refusals are from 1 to 10: none is the 0 of an accepted call.
 use mathlib.Core.Path.{◌≡◌}
-use Prim.Native.Nat.{ℕ, ◌≤◌}
+use Prim.Native.Nat.{◌≤◌}
 use native.Mathlib.Omega.{arith}
 use Rattle.refusals.specs.declared.Refusal.{Refusal}
 use Rattle.refusals.specs.declared.Refusal.TheVariants.{Length, Address, Reset, Window, ReadOnly, TestPattern, Ticks, Rules, Time, Kind}

@@ -1,7 +1,5 @@
 -- What the calls leave in the registers.
-use Rattle.std.specs.Prelude.{Bool, true, false, cond, ◌&&◌, ◌||◌, not, ℕ, ◌+◌, ◌*◌, ◌/◌, ◌%◌, eqb}
-use Rattle.calendar.specs.declared.Clock.{Clock}
-use Rattle.calendar.specs.declared.Alarm.{Alarm}
+use Rattle.std.specs.Prelude.{Bool, false, cond, ◌&&◌, ◌||◌, not, ℕ, ◌+◌, ◌*◌, ◌/◌, ◌%◌, eqb}
 use Rattle.divider.specs.Divider as divider
 use Rattle.registers.specs.declared.Regs.{Regs}
 use Rattle.registers.specs.Bits.{dv_of, set_on}

@@ -85,7 +85,7 @@ fn tail_of(regs: Regs) -> [u8; 8]
 }
 
 // The record writer: fills the part with the chip's record.
-#[tactic(auto, using(crate::proofs::Laws::Parts::three_parts_fill), unfolding(crate::specs::Record::record_of, chip::specs::Chips::locations, crate::specs::Record::tail_of))]
+#[tactic(auto, unfolding(crate::specs::Record::record_of))]
 pub fn store(chip: Chip, part: &mut [u8])
     requires { length part.old ≡ record_size }
     ensures { part.new ≡ record_of chip }

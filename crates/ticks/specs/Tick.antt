@@ -1,5 +1,5 @@
 -- One tick, in four steps: first the count, then PF, then whether an update waits, and last the update.
-use Rattle.std.specs.Prelude.{Bool, true, false, cond, ◌&&◌, ◌||◌, not, ℕ, zero, suc}
+use Rattle.std.specs.Prelude.{false, cond, ◌&&◌, ◌||◌, not, ℕ, zero, suc}
 use Rattle.fields.specs.Modes.{mode_of}
 use Rattle.calendar.specs.declared.Updated.{Updated}
 use Rattle.calendar.specs.Update.{update}

@@ -1,6 +1,5 @@
 -- The two time calls, on buffers of any length.
-use Rattle.std.specs.Prelude.{Bool, cond, ◌&&◌, List, [], ◌∷◌, ℕ, eqb, length, get_or, replicate}
-use Rattle.refusals.specs.declared.Refusal.{Refusal}
+use Rattle.std.specs.Prelude.{cond, ◌&&◌, List, [], ◌∷◌, ℕ, eqb, length, get_or, replicate}
 use Rattle.refusals.specs.declared.Refusal.TheVariants as refused
 use Rattle.refusals.specs.Numbers.{number_of}
 use Rattle.fields.specs.declared.Mode.{Mode}

@@ -138,7 +138,7 @@ fn year_of(day: u32) -> u8
 }
 
 // The month and the date of a day of a year, the first being day 0.
-#[tactic(auto, using(crate::proofs::Laws::Code::reached_first, crate::proofs::Laws::Code::reached_next, crate::proofs::Laws::Code::reached_month, crate::proofs::Laws::Code::reached_date, crate::proofs::Laws::Code::reached_small), unfolding(crate::specs::Days::month_in, crate::specs::Days::date_in))]
+#[tactic(auto, using(crate::proofs::Laws::Code::reached_first))]
 fn place_of(leap: bool, day: u32) -> Place
     requires { day < before (last_days leap) 12 }
     ensures { (result.month ≡ month_in leap day) × (result.date ≡ date_in leap day) }

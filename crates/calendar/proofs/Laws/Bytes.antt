@@ -1,13 +1,13 @@
 -- The seconds after an update never reach bit 7, whatever the bytes were before it.
 use mathlib.Core.Path.{◌≡◌, refl}
-use mathlib.Core.Bool.{Bool, true, false, cond, ◌&&◌}
+use mathlib.Core.Bool.{Bool, true, false, ◌&&◌}
 use mathlib.Core.Logic.{◌⊎◌, inl, inr}
-use Prim.Native.Nat.{ℕ, ◌+◌, ◌*◌, ◌/◌, ◌%◌, ◌≤◌, ◌<◌}
+use Prim.Native.Nat.{ℕ, ◌≤◌, ◌<◌}
 use native.Mathlib.Omega.{arith}
 use lib.Dec.{leb}
 use Rattle.cases.proofs.Tests.{either, leb_case}
 use Rattle.fields.specs.declared.Mode.{Mode}
-use Rattle.fields.specs.Bytes.{byte_of, ordinary_next}
+use Rattle.fields.specs.Bytes.{byte_of}
 use Rattle.fields.specs.Steps.{step}
 use Rattle.fields.proofs.Laws.Bytes.{next_below}
 use Rattle.calendar.specs.declared.Clock.{Clock}

@@ -2,7 +2,7 @@
 use mathlib.Core.Path.{◌≡◌, refl, sym, ap, ◌∙◌}
 use mathlib.Core.Bool.{Bool, true, false, cond, ◌&&◌, ◌||◌, not}
 use mathlib.Core.Logic.{◌⊎◌, inl, inr}
-use Prim.Native.Nat.{ℕ, ◌+◌, ◌≤◌, ◌<◌}
+use Prim.Native.Nat.{ℕ}
 use native.Mathlib.Omega.{arith}
 use lib.Dec.{eqb}
 use borrow.Author.Tests.{eqb-true, eq-eqb, ne_eqb}
@@ -13,10 +13,9 @@ use Rattle.cases.proofs.Tests.{either, and_left, and_right}
 use Rattle.fields.proofs.Laws.Bytes.{byte_in_order}
 use Rattle.fields.proofs.Laws.Steps.{step_moves, step_rests}
 use Rattle.calendar.specs.declared.Clock.{Clock}
-use Rattle.calendar.specs.declared.Advanced.{Advanced}
 use Rattle.calendar.specs.Days.{last_day_of}
 use Rattle.calendar.specs.Advance.{hours_step, date_step, one_second_on, ordinary}
-use Rattle.calendar.specs.Daylight.{at_change, in_days, springs, repeats, at_hour, advance}
+use Rattle.calendar.specs.Daylight.{at_change, springs, repeats, at_hour, advance}
 use Rattle.calendar.proofs.Laws.Days.{last_day_of_is_28_to_31}
 
 -- ---- which second is which

@@ -1,6 +1,6 @@
 -- The last days: the table that the code reads, and their size.
-use mathlib.Core.Path.{◌≡◌, refl, ap, ◌∙◌}
-use mathlib.Core.Bool.{Bool, true, false, cond, ◌&&◌}
+use mathlib.Core.Path.{◌≡◌, refl}
+use mathlib.Core.Bool.{Bool, true, false, ◌&&◌}
 use mathlib.Core.List.{List, [], ◌∷◌}
 use mathlib.Core.Logic.{◌⊎◌, inl, inr}
 use Prim.Native.Nat.{ℕ, zero, suc, ◌+◌, ◌-◌, ◌≤◌, ◌<◌}
@@ -10,7 +10,7 @@ use lib.Dec.{leb, eqb}
 use lib.ListN.{length, get_or}
 use borrow.Author.Tests.{leb-true, eqb-true, eqb-false}
 use Rattle.cases.proofs.Tests.{either, and_left, and_right}
-use Rattle.fields.proofs.Laws.Ranges.{InRange, range_fact}
+use Rattle.fields.proofs.Laws.Ranges.{range_fact}
 use Rattle.fields.specs.Bytes.{value_of, in_range}
 use Rattle.calendar.specs.Days.{last_days, last_day, is_leap, last_day_of}
 

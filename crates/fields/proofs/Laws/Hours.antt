@@ -1,6 +1,6 @@
 -- The hours in either hour mode, over either data mode: there and back, and the step.
-use mathlib.Core.Path.{◌≡◌, refl, sym, ap, ◌∙◌}
-use mathlib.Core.Bool.{Bool, true, false, cond, ◌&&◌}
+use mathlib.Core.Path.{◌≡◌, sym, ap, ◌∙◌}
+use mathlib.Core.Bool.{Bool, true, false}
 use mathlib.Core.Logic.{◌⊎◌, inl, inr}
 use Prim.Native.Nat.{ℕ, ◌+◌, ◌-◌, ◌*◌, ◌/◌, ◌%◌, ◌≤◌, ◌<◌}
 use native.Mathlib.Omega.{arith}
@@ -9,11 +9,11 @@ use borrow.Author.Tests.{eq-eqb, ne_eqb, ltb-true, lt-ltb}
 use Rattle.cases.proofs.Tests.{leb_case, eqb_case, and_left, and_right, and_both}
 use Rattle.fields.proofs.Laws.Bytes.{Digits, value_of_byte, byte_of_value, byte_has_digits, leb_of_byte, next_is_one_more, value_small}
 use Rattle.fields.proofs.Laws.Ranges.{InRange, range_test, range_fact, byte_in_range}
-use Rattle.fields.proofs.Laws.Steps.{carry_of, Adds, step_adds}
+use Rattle.fields.proofs.Laws.Steps.{carry_of, step_adds}
 use Rattle.fields.specs.declared.Mode.{Mode}
-use Rattle.fields.specs.Bytes.{value_of, byte_of, ordinary_next, in_range}
+use Rattle.fields.specs.Bytes.{value_of, byte_of, ordinary_next}
 use Rattle.fields.specs.Hours.{hour_of, hour_byte, hour_in_range}
-use Rattle.fields.specs.Steps.{step, half_day_step, hour_step}
+use Rattle.fields.specs.Steps.{half_day_step, hour_step}
 
 abbrev mode_by : Bool → Bool → Mode
 mode_by binary hours24 = record { binary = binary; hours24 = hours24 }

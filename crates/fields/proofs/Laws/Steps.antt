@@ -1,6 +1,6 @@
 -- A field's step as an equation for all modes: the new value and what it carries out add up to the old value and what was carried in.
 use mathlib.Core.Path.{◌≡◌, refl, ◌∙◌}
-use mathlib.Core.Bool.{Bool, true, false, cond}
+use mathlib.Core.Bool.{Bool, true, false}
 use mathlib.Core.Logic.{◌⊎◌, inl, inr}
 use Prim.Native.Nat.{ℕ, ◌+◌, ◌-◌, ◌*◌, ◌≤◌, ◌<◌}
 use native.Mathlib.Omega.{arith}
@@ -8,7 +8,7 @@ use lib.Dec.{leb}
 use Rattle.cases.proofs.Tests.{leb_case}
 use Rattle.fields.proofs.Laws.Bytes.{value_of_byte, byte_has_digits, leb_of_byte, next_is_one_more, next_above, byte_in_order}
 use Rattle.fields.proofs.Laws.Ranges.{InRange}
-use Rattle.fields.specs.Bytes.{value_of, byte_of, ordinary_next}
+use Rattle.fields.specs.Bytes.{value_of, byte_of}
 use Rattle.fields.specs.Steps.{step}
 
 -- a carry as a number

@@ -1,19 +1,18 @@
 -- The two verdicts as the table's numbers, and what an open location tells.
-use mathlib.Core.Path.{◌≡◌, refl, sym, ◌∙◌}
+use mathlib.Core.Path.{◌≡◌, refl}
 use mathlib.Core.Bool.{Bool, true, false, cond, ◌&&◌, ◌||◌}
-use mathlib.Core.Logic.{◌⊎◌, inl, inr}
-use Prim.Native.Nat.{ℕ, ◌≤◌, ◌<◌}
+use Prim.Native.Nat.{ℕ, ◌<◌}
 use native.Mathlib.Omega.{arith}
-use lib.Dec.{eqb, leb, ltb}
+use lib.Dec.{eqb, ltb}
 use borrow.Author.Tests.{ltb-false, eq-eqb}
 use Rattle.refusals.specs.declared.Refusal.{Refusal}
 use Rattle.divider.specs.Divider.{test_pattern}
-use Rattle.refusals.specs.declared.Refusal.TheVariants.{Address, Reset, Window, ReadOnly, TestPattern}
+use Rattle.refusals.specs.declared.Refusal.TheVariants.{Address, Reset, ReadOnly, TestPattern}
 use Rattle.registers.specs.declared.Regs.{Regs}
 use Rattle.registers.specs.declared.Verdict.{Verdict}
 use Rattle.registers.specs.declared.Verdict.TheVariants.{Open, Refused}
 use Rattle.registers.specs.Bits.{dv_of}
-use Rattle.registers.specs.Access.{closed, access, then_ask, write_access}
+use Rattle.registers.specs.Access.{access, then_ask, write_access}
 
 -- a verdict that refuses is not open
 refused_is_not_open : {A : Type 0} {why : Refusal} → ◌≡◌ {A = Verdict} (Refused why) Open → A

@@ -2,19 +2,16 @@
 use mathlib.Core.Path.{◌≡◌, refl, sym, ap, ◌∙◌}
 use mathlib.Core.Bool.{Bool, true, false, cond, ◌&&◌, ◌||◌, not}
 use mathlib.Core.Logic.{◌⊎◌, inl, inr}
-use Prim.Native.Nat.{ℕ, ◌+◌, ◌*◌, ◌/◌, ◌%◌, ◌≤◌, ◌<◌}
+use Prim.Native.Nat.{ℕ, ◌+◌, ◌*◌, ◌/◌, ◌%◌, ◌<◌}
 use native.Mathlib.Omega.{arith}
-use lib.Dec.{eqb, leb, ltb}
-use borrow.Author.Tests.{eqb-true}
-use Rattle.cases.proofs.Tests.{either, eqb_case, and_left, and_right, false_is_not_true}
-use Rattle.divider.specs.declared.Divider.{Divider}
+use lib.Dec.{eqb}
+use Rattle.cases.proofs.Tests.{either, eqb_case, false_is_not_true}
 use Rattle.divider.specs.Divider as divider
-use Rattle.divider.proofs.Laws.Keeps.{Kept, keeps_count_gives_kept, kept_gives_keeps_count, based_keeps, fresh_keeps}
+use Rattle.divider.proofs.Laws.Keeps.{keeps_count_gives_kept, kept_gives_keeps_count, based_keeps, fresh_keeps}
 use Rattle.registers.specs.declared.Regs.{Regs}
-use Rattle.registers.specs.declared.Verdict.{Verdict}
-use Rattle.registers.specs.declared.Verdict.TheVariants.{Open, Refused}
+use Rattle.registers.specs.declared.Verdict.TheVariants.{Open}
 use Rattle.registers.specs.Bits.{dv_of, set_on}
-use Rattle.registers.specs.Access.{access, then_ask, write_access}
+use Rattle.registers.specs.Access.{write_access}
 use Rattle.registers.specs.Calls.{fresh, after_read, write_a, set_rises, write_b, write_plain, written, with_pins}
 use Rattle.registers.proofs.Laws.Access.{open_has_reset_high, open_a_has_no_pattern, write_open_is_open}
 

@@ -1,6 +1,6 @@
 -- A record byte by byte: that of a fresh chip, which loads.
 use mathlib.Core.Path.{◌≡◌, refl}
-use mathlib.Core.List.{[], ◌∷◌, ◌++◌}
+use mathlib.Core.List.{◌∷◌, ◌++◌}
 use lib.ListN.{replicate}
 use Rattle.divider.specs.Divider as divider
 use Rattle.registers.specs.Lines.{irqf}

@@ -1,14 +1,12 @@
 -- A tick leaves sound registers sound.
-use mathlib.Core.Path.{◌≡◌, refl, sym, ap, ◌∙◌}
+use mathlib.Core.Path.{◌≡◌, refl, sym}
 use mathlib.Core.Bool.{Bool, true, false, cond, ◌&&◌, ◌||◌, not}
 use mathlib.Core.Logic.{◌⊎◌, inl, inr}
-use Prim.Native.Nat.{ℕ, zero, suc, ◌<◌}
-use native.Mathlib.Omega.{arith}
+use Prim.Native.Nat.{ℕ, zero, suc}
 use Rattle.cases.proofs.Tests.{either, false_is_not_true}
 use Rattle.calendar.specs.Update.{update}
 use Rattle.calendar.proofs.Laws.Bytes.{advance_seconds_below_128}
-use Rattle.divider.specs.declared.Divider.{Divider}
-use Rattle.divider.specs.Divider.{running, moved, rose, at_zero, at_end, before_end, keeps_count}
+use Rattle.divider.specs.Divider.{running, moved, rose, at_zero, at_end, keeps_count}
 use Rattle.divider.proofs.Laws.Base.{Base, running_is_base}
 use Rattle.divider.proofs.Laws.Keeps.{Kept, keeps_count_gives_kept, kept_gives_keeps_count, moved_keeps}
 use Rattle.divider.proofs.Laws.Formula.{pending_stays_before_end}

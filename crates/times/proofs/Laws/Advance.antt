@@ -1,7 +1,6 @@
 -- A second on the clock is a second of time, in every mode; and so are n of them.
-use mathlib.Core.Path.{◌≡◌, refl, sym, ap, ◌∙◌}
+use mathlib.Core.Path.{◌≡◌, refl, ap, ◌∙◌}
 use mathlib.Core.Bool.{Bool, true, false, cond}
-use mathlib.Core.Logic.{◌⊎◌, inl, inr}
 use Prim.Native.Nat.{ℕ, zero, suc, ◌+◌, ◌-◌, ◌*◌, ◌/◌, ◌%◌, ◌≤◌, ◌<◌}
 use native.Mathlib.Omega.{arith}
 use lib.Dec.{eqb}
@@ -9,15 +8,13 @@ use borrow.Author.Tests.{eq-eqb, ne_eqb, eqb-true, eqb-false}
 use Rattle.fields.specs.declared.Mode.{Mode}
 use Rattle.fields.specs.Bytes.{value_of}
 use Rattle.fields.specs.Hours.{hour_of}
-use Rattle.fields.proofs.Laws.Ranges.{InRange}
 use Rattle.fields.proofs.Laws.Steps.{carry_of, Adds, step_adds}
-use Rattle.fields.proofs.Laws.Hours.{HourInRange, HourAdds, hour_step_adds, hour_below_24}
+use Rattle.fields.proofs.Laws.Hours.{HourAdds, hour_step_adds, hour_below_24}
 use Rattle.calendar.specs.declared.Clock.{Clock}
 use Rattle.calendar.specs.Days.{last_day, leap_year, last_day_of}
 use Rattle.calendar.specs.Advance.{seconds_step, minutes_step, hours_step, weekday_step, date_step, month_step, year_step, one_second_on}
 use Rattle.calendar.proofs.Laws.Days.{last_day_of_is_28_to_31}
 use Rattle.times.specs.declared.Time.{Time}
-use Rattle.times.specs.Days.{day_of}
 use Rattle.times.specs.Times.{century, is_valid, time_of, seconds_of, day_number, second_later, later, seconds_on}
 use Rattle.times.proofs.Laws.Days.{Turn, turn_is_a_day, turn_keeps_date}
 use Rattle.times.proofs.Laws.Valid.{Valid, valid_test, valid_fact, valid_date, last_day_by_numbers, Timely}

@@ -2,7 +2,7 @@
 use mathlib.Core.Path.{◌≡◌, refl, sym, ap, ◌∙◌}
 use mathlib.Core.Bool.{Bool, true, false}
 use mathlib.Core.List.{List, [], ◌∷◌, ◌++◌}
-use Prim.Native.Nat.{ℕ, suc, ◌+◌, ◌-◌, ◌*◌, ◌/◌, ◌%◌, ◌≤◌, ◌<◌}
+use Prim.Native.Nat.{ℕ, ◌+◌, ◌-◌, ◌≤◌, ◌<◌}
 use native.Mathlib.Numerals.{add-one}
 use native.Mathlib.Omega.{arith}
 use lib.ListN.{length, get_or, set, take, replicate, replicate-append-replicate}
@@ -11,7 +11,7 @@ use Rattle.calendar.specs.Days.{last_days, last_day, leap_year}
 use Rattle.calendar.proofs.Laws.Days.{twelve_months, month_is_28_to_31, last_day_is_28_to_31}
 use Rattle.times.specs.Days.{before, part, within, days_before_year, year_of, month_in, date_in, month_of, date_of}
 use Rattle.times.specs.Calls.{clock_at, bytes_of}
-use Rattle.times.proofs.Laws.Days.{years_closed, IsDate, day_has_date}
+use Rattle.times.proofs.Laws.Days.{years_closed, day_has_date}
 use Rattle.times.proofs.Laws.Lengths.{before_next, before_fits, falls_into}
 
 -- ---- a buffer that is cleared from its start

@@ -1,24 +1,23 @@
 -- What the two daylight changes do to the time that a valid clock tells.
-use mathlib.Core.Path.{◌≡◌, refl, sym, ap, ◌∙◌}
-use mathlib.Core.Bool.{Bool, true, false, cond, ◌&&◌}
+use mathlib.Core.Path.{◌≡◌, refl, ap}
+use mathlib.Core.Bool.{Bool, true, false}
 use mathlib.Core.Logic.{◌⊎◌, inl, inr}
-use Prim.Native.Nat.{ℕ, ◌+◌, ◌*◌, ◌≤◌, ◌<◌}
+use Prim.Native.Nat.{ℕ, ◌+◌, ◌*◌, ◌<◌}
 use native.Mathlib.Omega.{arith}
 use lib.Dec.{eqb}
 use borrow.Author.Tests.{eqb-true}
 use Rattle.fields.specs.declared.Mode.{Mode}
 use Rattle.fields.specs.Bytes.{value_of, byte_of}
-use Rattle.fields.specs.Hours.{hour_of, hour_byte}
+use Rattle.fields.specs.Hours.{hour_byte}
 use Rattle.cases.proofs.Tests.{either, and_left, and_right}
 use Rattle.fields.proofs.Laws.Bytes.{value_of_byte}
 use Rattle.fields.proofs.Laws.Ranges.{InRange, byte_in_range}
 use Rattle.fields.proofs.Laws.Hours.{hour_of_byte}
 use Rattle.calendar.specs.declared.Clock.{Clock}
 use Rattle.calendar.specs.declared.Advanced.{Advanced}
-use Rattle.calendar.specs.Advance.{one_second_on, ordinary}
+use Rattle.calendar.specs.Advance.{ordinary}
 use Rattle.calendar.specs.Daylight.{at_change, springs, repeats, at_hour, advance}
 use Rattle.calendar.proofs.Laws.Daylight.{off_is_ordinary, spring_goes_to_three, repeat_goes_to_one, other_seconds_are_ordinary}
-use Rattle.times.specs.declared.Time.{Time}
 use Rattle.times.specs.Times.{is_valid, time_of, seconds_of, day_number}
 use Rattle.times.proofs.Laws.Valid.{Valid, valid_test, valid_fact}
 use Rattle.times.proofs.Laws.Advance.{second_valid}

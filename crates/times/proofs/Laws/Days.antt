@@ -1,18 +1,16 @@
 -- The days of a hundred years: the date of a day, the day of a date, and one day on.
-use mathlib.Core.Path.{◌≡◌, refl, sym, ap, ◌∙◌}
-use mathlib.Core.Bool.{Bool, true, false, cond}
-use mathlib.Core.List.{List, [], ◌∷◌}
+use mathlib.Core.Path.{◌≡◌, refl, ap, ◌∙◌}
+use mathlib.Core.Bool.{Bool, true, false}
 use mathlib.Core.Logic.{◌⊎◌, inl, inr}
 use Prim.Native.Nat.{ℕ, zero, suc, ◌+◌, ◌-◌, ◌*◌, ◌/◌, ◌%◌, ◌≤◌, ◌<◌}
 use native.Mathlib.Numerals.{add-one}
 use native.Mathlib.Omega.{arith}
 use lib.Dec.{eqb}
-use lib.ListN.{length, get_or}
 use Rattle.cases.proofs.Tests.{eqb_case}
 use Rattle.fields.proofs.Laws.Steps.{carry_of, carry_small}
 use Rattle.calendar.specs.Days.{last_days, last_day, leap_year}
 use Rattle.calendar.proofs.Laws.Days.{twelve_months, last_day_is_28_to_31}
-use Rattle.times.specs.Days.{before, part, within, days_before_year, day_of, year_of, month_in, date_in, month_of, date_of}
+use Rattle.times.specs.Days.{before, part, days_before_year, day_of, year_of, month_in, date_in, month_of, date_of}
 use Rattle.times.proofs.Laws.Lengths.{before_next, before_fits, Falls, falls, falls_into}
 
 -- ---- years

@@ -1,21 +1,21 @@
 -- A clock to a time and back, and a time to a clock and back, in every mode.
-use mathlib.Core.Path.{◌≡◌, refl, sym, ap, ◌∙◌}
-use mathlib.Core.Bool.{Bool, true, false}
+use mathlib.Core.Path.{◌≡◌, ap, ◌∙◌}
+use mathlib.Core.Bool.{true}
 use Prim.Native.Nat.{ℕ, ◌+◌, ◌*◌, ◌/◌, ◌%◌, ◌≤◌, ◌<◌}
 use native.Mathlib.Omega.{arith}
 use Rattle.fields.specs.declared.Mode.{Mode}
 use Rattle.fields.specs.Bytes.{value_of, byte_of}
 use Rattle.fields.specs.Hours.{hour_of, hour_byte}
 use Rattle.fields.proofs.Laws.Bytes.{value_of_byte, byte_of_value}
-use Rattle.fields.proofs.Laws.Ranges.{InRange, byte_in_range}
-use Rattle.fields.proofs.Laws.Hours.{HourInRange, hour_below_24, hour_of_byte, byte_of_hour}
+use Rattle.fields.proofs.Laws.Ranges.{byte_in_range}
+use Rattle.fields.proofs.Laws.Hours.{hour_below_24, hour_of_byte, byte_of_hour}
 use Rattle.calendar.specs.declared.Clock.{Clock}
 use Rattle.calendar.specs.Days.{leap_year}
 use Rattle.calendar.proofs.Laws.Days.{last_day_is_28_to_31}
 use Rattle.times.specs.declared.Time.{Time}
-use Rattle.times.specs.Days.{day_of, year_of, month_of, date_of}
+use Rattle.times.specs.Days.{year_of, month_of, date_of}
 use Rattle.times.specs.Times.{century, is_valid, is_time, time_of, clock_of, seconds_of, day_number}
-use Rattle.times.proofs.Laws.Days.{IsDate, day_has_date, day_of_its_date, date_of_its_day, day_below_36525}
+use Rattle.times.proofs.Laws.Days.{day_has_date, day_of_its_date, date_of_its_day, day_below_36525}
 use Rattle.times.proofs.Laws.Valid.{Valid, valid_test, valid_fact, valid_date, last_day_by_numbers, Timely, time_test, time_fact}
 
 -- ---- from a time to a clock
