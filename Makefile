@@ -4,13 +4,13 @@
 
 all: run
 
-# The programs that a target below asks for are in target/bin.
 run: target/bin/plate_room
 	@target/bin/plate_room
 	@echo
 	@$(MAKE) -s samples
 
-# Proves a program and what it stands on, and builds it. `rt run` builds a program by running it; here it gets no input, and what it writes goes to the log.
+# Proves a program and what it stands on, and builds it. `rt run` builds a program in order to run it: here it gets no
+# input, and what it writes goes to the log.
 target/bin/%: FORCE
 	@mkdir -p target/bin
 	@(cd crates/$* && rt run) </dev/null >target/$*.log 2>&1 || { cat target/$*.log; exit 1; }

@@ -37,7 +37,8 @@ BENCH_RECORDS ?= 10000000
 
 .PHONY: archive install dist example compare samples bench event-tools
 
-# The crate that exports the calls has a name of its own, since a crate is a library or a static library and not both; hosts link libmc146818.a.
+# The calls stand in the library mc146818, and mc146818_c exports them: a crate is a library or a static library, not
+# both. Hosts link libmc146818.a.
 archive:
 	cd crates/mc146818_c && rt lib
 	@install -d target/staticlib
