@@ -4,26 +4,28 @@
 
 all: run
 
-# Proves the program and what it stands on, then runs it.
 run: target/bin/plate_room
 	@target/bin/plate_room
 	@echo
 	@$(MAKE) -s samples
 
-target/bin/plate_room: FORCE
-	@rt check plate_room >target/plate_room.log 2>&1 || { cat target/plate_room.log; exit 1; }
+# Proves a program and what it stands on, and builds it. `rt run` builds a program in order to run it: here it gets no
+# input, and what it writes goes to the log.
+target/bin/%: FORCE
+	@mkdir -p target/bin
+	@(cd crates/$* && rt run) </dev/null >target/$*.log 2>&1 || { cat target/$*.log; exit 1; }
+	@install -m 755 crates/$*/out/$* $@
 
 # Every crate, with the programs' outputs compared; without the must-fail edits and the host.
 check:
-	rt check
+	rt all test
 
 test:
 	.ci/run
 
 clean:
-	rm -rf target
+	rm -rf target crates/*/out
 
 FORCE:
-	@mkdir -p target
 
 include host/host.mk

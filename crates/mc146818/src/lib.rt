@@ -1,4 +1,4 @@
-// What a C host links: each call loads the 72 bytes, makes one call of the chip, and stores the result in the same bytes.
+// A host's calls, which mc146818_c hands to C: each loads the 72 bytes, makes one call of the chip, and stores the result in the same bytes.
 #![tactic(auto)]
 
 ghost use Rattle.std.specs.Prelude.{◌≡◌, cond};
@@ -82,16 +82,14 @@ fn level(on: bool, place: u32) -> u32
 
 // ---- the calls
 
-#[unsafe(no_mangle)]
-pub extern "C" fn mc146818_fresh(chip: &mut [u8; 72])
+pub fn mc146818_fresh(chip: &mut [u8; 72])
     ensures { chip.new ≡ record_of fresh }
 {
     saved::store(chip::fresh(), chip);
 }
 
-#[unsafe(no_mangle)]
 #[tactic(auto, unfolding(crate::specs::Calls::read))]
-pub extern "C" fn mc146818_read(chip: &mut [u8; 72], address: u32) -> u32
+pub fn mc146818_read(chip: &mut [u8; 72], address: u32) -> u32
     ensures { host_of result chip.new ≡ read chip.old address }
 {
     let loaded = saved::load(chip);
@@ -108,9 +106,8 @@ pub extern "C" fn mc146818_read(chip: &mut [u8; 72], address: u32) -> u32
     byte as u32
 }
 
-#[unsafe(no_mangle)]
 #[tactic(auto, unfolding(crate::specs::Calls::write))]
-pub extern "C" fn mc146818_write(chip: &mut [u8; 72], address: u32, value: u8) -> u32
+pub fn mc146818_write(chip: &mut [u8; 72], address: u32, value: u8) -> u32
     ensures { host_of result chip.new ≡ write chip.old address value }
 {
     let loaded = saved::load(chip);
@@ -127,9 +124,8 @@ pub extern "C" fn mc146818_write(chip: &mut [u8; 72], address: u32, value: u8) -
     0
 }
 
-#[unsafe(no_mangle)]
 #[tactic(auto, unfolding(crate::specs::Calls::run))]
-pub extern "C" fn mc146818_run(chip: &mut [u8; 72], ticks: u32) -> u32
+pub fn mc146818_run(chip: &mut [u8; 72], ticks: u32) -> u32
     ensures { host_of result chip.new ≡ run chip.old ticks }
 {
     let loaded = saved::load(chip);
@@ -147,9 +143,8 @@ pub extern "C" fn mc146818_run(chip: &mut [u8; 72], ticks: u32) -> u32
 }
 
 // Bit 0 of the levels is RESET, bit 1 is PS; 1 is high.
-#[unsafe(no_mangle)]
 #[tactic(auto, unfolding(crate::specs::Calls::pins))]
-pub extern "C" fn mc146818_pins(chip: &mut [u8; 72], levels: u32) -> u32
+pub fn mc146818_pins(chip: &mut [u8; 72], levels: u32) -> u32
     ensures { host_of result chip.new ≡ pins chip.old levels }
 {
     let loaded = saved::load(chip);
@@ -164,9 +159,8 @@ pub extern "C" fn mc146818_pins(chip: &mut [u8; 72], levels: u32) -> u32
 }
 
 // Bit 0 of the byte is IRQ asserted, bit 1 is SQW high.
-#[unsafe(no_mangle)]
 #[tactic(auto, using(registers::proofs::Laws::Bits::placed_at_most), unfolding(crate::specs::Calls::lines))]
-pub extern "C" fn mc146818_lines(chip: &[u8; 72]) -> u32
+pub fn mc146818_lines(chip: &[u8; 72]) -> u32
     ensures { host_of result chip.now ≡ lines chip.now }
 {
     let loaded = saved::load(chip);
@@ -178,9 +172,8 @@ pub extern "C" fn mc146818_lines(chip: &[u8; 72]) -> u32
     level(levels.irq, 1) + level(levels.sqw, 2)
 }
 
-#[unsafe(no_mangle)]
 #[tactic(auto, unfolding(crate::specs::Calls::load))]
-pub extern "C" fn mc146818_load(chip: &mut [u8; 72], input: &[u8]) -> u32
+pub fn mc146818_load(chip: &mut [u8; 72], input: &[u8]) -> u32
     ensures { host_of result chip.new ≡ load chip.old input.now }
 {
     let loaded = saved::load(input);
@@ -192,9 +185,8 @@ pub extern "C" fn mc146818_load(chip: &mut [u8; 72], input: &[u8]) -> u32
     0
 }
 
-#[unsafe(no_mangle)]
 #[tactic(auto, unfolding(crate::specs::Calls::save))]
-pub extern "C" fn mc146818_save(chip: &[u8; 72], page: &mut [u8], offset: usize) -> u32
+pub fn mc146818_save(chip: &[u8; 72], page: &mut [u8], offset: usize) -> u32
     ensures { host_of result page.new ≡ save chip.now page.old offset }
 {
     let loaded = saved::load(chip);
@@ -206,17 +198,15 @@ pub extern "C" fn mc146818_save(chip: &[u8; 72], page: &mut [u8], offset: usize)
 }
 
 // The mode is that of a register B byte.
-#[unsafe(no_mangle)]
 #[tactic(auto, unfolding(crate::specs::Calls::decode))]
-pub extern "C" fn mc146818_decode(bytes: &[u8], mode: u8) -> u64
+pub fn mc146818_decode(bytes: &[u8], mode: u8) -> u64
     ensures { result ≡ decode bytes.now mode }
 {
     decoded_word(times::decode(bytes, fields::mode_of(mode)))
 }
 
-#[unsafe(no_mangle)]
 #[tactic(auto, unfolding(crate::specs::Calls::encode))]
-pub extern "C" fn mc146818_encode(bytes: &mut [u8], seconds: u64, weekday: u32, mode: u8) -> u32
+pub fn mc146818_encode(bytes: &mut [u8], seconds: u64, weekday: u32, mode: u8) -> u32
     ensures { host_of result bytes.new ≡ encode bytes.old seconds weekday mode }
 {
     let time = Time { weekday, seconds };

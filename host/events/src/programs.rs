@@ -7,7 +7,7 @@ use std::process::{Command, Stdio};
 
 /// The proved event program.
 pub fn proved() -> Result<PathBuf, String> {
-    named("RTC_EVENTS", "target/bin/rtc_events", "rt check rtc_events builds it")
+    named("RTC_EVENTS", "target/bin/rtc_events", "make target/bin/rtc_events builds it")
 }
 
 /// The second program's own.
