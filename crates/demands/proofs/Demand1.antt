@@ -1,14 +1,14 @@
 -- Demand 1: every call answers 0 or the first refusal of its rows in the table, on any input, and a refusal changes neither chip nor page.
 -- That every call ends and does nothing undefined is what the toolchain proves of each function before it is built.
-use mathlib.Core.Path.{◌≡◌, refl, sym, ap, ◌∙◌}
-use mathlib.Core.Bool.{Bool, true, false, cond, ◌&&◌, ◌||◌, not}
+use mathlib.Core.Path.{◌≡◌, refl, ap, ◌∙◌}
+use mathlib.Core.Bool.{true, false, cond, ◌&&◌, not}
 use mathlib.Core.Logic.{◌⊎◌, inl, inr}
-use mathlib.Core.List.{List, [], ◌∷◌, ◌++◌}
-use Prim.Native.Nat.{ℕ, ◌+◌, ◌*◌, ◌/◌, ◌%◌, ◌≤◌, ◌<◌}
+use mathlib.Core.List.{List}
+use Prim.Native.Nat.{ℕ, ◌+◌, ◌/◌, ◌%◌, ◌≤◌, ◌<◌}
 use native.Mathlib.Omega.{arith}
 use lib.Dec.{eqb, leb, ltb}
 use lib.ListN.{length, get_or, replicate, get_or-append, length-append}
-use borrow.Author.Tests.{eqb-true, le-leb, lt-leb}
+use borrow.Author.Tests.{le-leb, lt-leb}
 use Rattle.cases.proofs.Tests.{either, ltb_case}
 use Rattle.refusals.specs.declared.Refusal.{Refusal}
 use Rattle.refusals.specs.declared.Refusal.TheVariants as refusal
@@ -18,11 +18,9 @@ use Rattle.fields.specs.Modes.{mode_of}
 use Rattle.times.specs.Times.{is_valid, is_time}
 use Rattle.times.specs.Calls as times
 use Rattle.times.specs.Calls.{clock_at}
-use Rattle.divider.specs.Divider.{test_pattern}
-use Rattle.registers.specs.Bits.{dv_of}
 use Rattle.registers.specs.declared.Verdict.{Verdict}
 use Rattle.registers.specs.declared.Verdict.TheVariants as verdict
-use Rattle.registers.specs.Access.{closed, access}
+use Rattle.registers.specs.Access.{access}
 use Rattle.registers.proofs.Laws.Access.{open_is_below_64}
 use Rattle.registers.proofs.Laws.Bits.{placed_at_most}
 use Rattle.registers.specs.Locations.{register_bytes}
@@ -32,14 +30,14 @@ use Rattle.chip.specs.declared.ReadAnswer.TheVariants as reading
 use Rattle.chip.specs.declared.Answer.{Answer}
 use Rattle.chip.specs.declared.Answer.TheVariants as plain
 use Rattle.chip.specs.declared.Levels.{Levels}
-use Rattle.chip.specs.Chips.{locations, location, fresh}
+use Rattle.chip.specs.Chips.{locations, location}
 use Rattle.chip.specs.Calls as chip
 use Rattle.chip.specs.Calls.{read_number, answer_number}
 use Rattle.chip.proofs.Laws.Locations.{fourteen_registers}
 use Rattle.chip.proofs.Laws.Refusals.{read_refusals, write_refusals, run_refusals}
 use Rattle.saved.specs.declared.LoadAnswer.TheVariants as loading
 use Rattle.saved.specs.declared.LoadResult.{LoadResult}
-use Rattle.saved.specs.Record.{record_of, tail_of, chip_of, byte_at}
+use Rattle.saved.specs.Record.{record_of, tail_of, chip_of}
 use Rattle.saved.proofs.Laws.Calls.{load_then_store, loaded_keeps_rules}
 use Rattle.saved.specs.Rules.{keeps_rules}
 use Rattle.saved.specs.Calls as saved
@@ -47,7 +45,7 @@ use Rattle.saved.specs.Calls.{record_size}
 use Rattle.mc146818.specs.Words.{Host, host_of, refused_word, save_word}
 use Rattle.mc146818.specs.Calls as host
 use Rattle.mc146818.specs.Calls.{when_loaded, stored_read, stored, time_by}
-use Rattle.demands.specs.Table.{HostCall, reads, writes, runs, pins, lines, loads, saves, decodes, encodes, answer_in, answer_of, first, load_rows, rows_of, chip_before, chip_after}
+use Rattle.demands.specs.Table.{HostCall, reads, writes, runs, pins, lines, loads, saves, decodes, encodes, answer_in, answer_of, first, rows_of, chip_before, chip_after}
 use Rattle.demands.specs.HostEvents.{AreBytes}
 
 -- ---- words

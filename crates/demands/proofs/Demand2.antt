@@ -1,10 +1,10 @@
 -- Demand 2: encode and decode undo one another in every mode, and load undoes save. Stated of the calls themselves. The register rules
 -- are the definitions that each call's contract cites, and the laws named in docs/CLAIMS.md.
-use mathlib.Core.Path.{◌≡◌, refl, sym, ap, ◌∙◌}
-use mathlib.Core.Bool.{Bool, true, false, cond, ◌&&◌}
+use mathlib.Core.Path.{◌≡◌, ap, ◌∙◌}
+use mathlib.Core.Bool.{true, false, ◌&&◌}
 use mathlib.Core.Logic.{◌⊎◌, inl, inr}
-use mathlib.Core.List.{List, [], ◌∷◌}
-use Prim.Native.Nat.{ℕ, ◌+◌, ◌≤◌, ◌<◌}
+use mathlib.Core.List.{List}
+use Prim.Native.Nat.{ℕ, ◌+◌, ◌≤◌}
 use native.Mathlib.Omega.{arith}
 use lib.Dec.{eqb}
 use lib.ListN.{length, take, drop}
@@ -12,13 +12,12 @@ use borrow.Author.Tests.{eq-eqb, eqb-true}
 use Rattle.cases.proofs.Tests.{either, and_left, and_right}
 use Rattle.refusals.specs.declared.Refusal.TheVariants as refusal
 use Rattle.fields.specs.declared.Mode.{Mode}
-use Rattle.calendar.specs.declared.Clock.{Clock}
 use Rattle.times.specs.declared.Time.{Time}
 use Rattle.times.specs.declared.Decoded.{Decoded}
 use Rattle.times.specs.declared.Decoded.TheVariants as decoding
 use Rattle.times.specs.declared.Encoded.TheVariants as encoding
-use Rattle.times.specs.Times.{is_valid, is_time, time_of, clock_of}
-use Rattle.times.specs.Calls.{clock_at, bytes_of, decoded, encoded, encoding_of}
+use Rattle.times.specs.Times.{is_valid, is_time, time_of}
+use Rattle.times.specs.Calls.{clock_at, decoded, encoded, encoding_of}
 use Rattle.times.proofs.Laws.Code.{seven_are_a_clock}
 use Rattle.times.proofs.Laws.RoundTrip.{encode_then_decode, decode_then_encode}
 use Rattle.chip.specs.declared.Chip.{Chip}

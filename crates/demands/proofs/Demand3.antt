@@ -1,23 +1,19 @@
 -- Demand 3: a chip that keeps time goes on keeping it, whatever events of the allowed kinds happen, and its user RAM keeps what it was given.
 use mathlib.Core.Path.{◌≡◌, refl, sym, ap, ◌∙◌}
-use mathlib.Core.Bool.{Bool, true, false, cond}
+use mathlib.Core.Bool.{Bool, true, false}
 use mathlib.Core.Logic.{◌⊎◌, inl, inr}
 use lib.Dec.{eqb, ltb}
 use mathlib.Core.List.{List, [], ◌∷◌}
-use Prim.Native.Nat.{ℕ, ◌+◌, ◌-◌, ◌*◌, ◌/◌, ◌%◌, ◌≤◌, ◌<◌}
+use Prim.Native.Nat.{ℕ, ◌+◌, ◌/◌, ◌%◌}
 use native.Mathlib.Omega.{arith}
-use Rattle.fields.specs.declared.Mode.{Mode}
 use Rattle.fields.specs.Modes.{mode_of}
-use Rattle.times.specs.declared.Time.{Time}
-use Rattle.times.specs.Times.{is_valid, time_of, later, seconds_on}
+use Rattle.times.specs.Times.{seconds_on}
 use Rattle.times.proofs.Laws.Advance.{n_seconds_on}
-use Rattle.divider.specs.Divider.{span, step_of, end_of, count_of}
-use Rattle.divider.proofs.Laws.Base.{Base, running_is_base}
+use Rattle.divider.proofs.Laws.Base.{running_is_base}
 use Rattle.divider.proofs.Laws.Keeps.{keeps_count_gives_kept}
 use Rattle.divider.proofs.Laws.Formula as course
 use Rattle.divider.proofs.Laws.Formula.{Course, completed_updates_at_rest}
 use Rattle.registers.specs.Bits.{dv_of}
-use Rattle.registers.proofs.Laws.Sound.{Sound}
 use Rattle.chip.specs.declared.Chip.{Chip}
 use Rattle.chip.proofs.Laws.Rules.{rules_are_sound}
 use Rattle.chip.specs.Calls.{read_by, read, write_by, write, run, pins}

@@ -1,12 +1,12 @@
 -- Four wrong clocks, each refuted by what is proved of ours: one that refuses everything, one that gives a fixed byte, one that does nothing,
 -- and one that makes all its updates on the first tick. The witness also shows that the premises of demand 3 can be met.
 use mathlib.Core.Path.{◌≡◌, refl, sym, ap, ◌∙◌}
-use mathlib.Core.Bool.{Bool, true, false, cond, ◌&&◌, ◌||◌}
-use mathlib.Core.List.{List, [], ◌∷◌}
+use mathlib.Core.Bool.{true, false, cond}
+use mathlib.Core.List.{[], ◌∷◌}
 use Prim.Native.Nat.{ℕ, ◌+◌, ◌-◌, ◌*◌, ◌/◌, ◌%◌, ◌<◌}
 use native.Mathlib.Omega.{arith}
-use lib.Dec.{eqb, leb, ltb}
-use lib.ListN.{length, get_or, set, replicate, length-replicate}
+use lib.Dec.{leb}
+use lib.ListN.{length, replicate, length-replicate}
 use Rattle.cases.proofs.Tests.{false_is_not_true}
 use Rattle.fields.specs.Modes.{mode_of}
 use Rattle.calendar.specs.Days.{last_days, last_day_of}
@@ -16,8 +16,6 @@ use Rattle.times.specs.Times.{century, is_valid, time_of, later}
 use Rattle.divider.specs.Divider as divider
 use Rattle.divider.specs.Divider.{step_of, end_of, count_of, span}
 use Rattle.divider.proofs.Laws.Keeps.{kept_gives_keeps_count, fresh_keeps}
-use Rattle.registers.specs.declared.Regs.{Regs}
-use Rattle.registers.specs.declared.Verdict.{Verdict}
 use Rattle.registers.specs.Access.{access, write_access}
 use Rattle.registers.specs.Locations.{register_bytes}
 use Rattle.registers.specs.Calls as registers
@@ -25,10 +23,9 @@ use Rattle.registers.proofs.Laws.Sound.{Sound}
 use Rattle.chip.specs.declared.Chip.{Chip}
 use Rattle.chip.specs.Chips.{locations, location, fresh, written}
 use Rattle.chip.specs.Calls.{read_number, read_byte, read, write, run}
-use Rattle.chip.specs.Rules.{Rules}
 use Rattle.chip.proofs.Laws.Rules.{sound_keeps_rules}
 use Rattle.chip.proofs.Laws.Refusals.{read_refusals}
-use Rattle.demands.specs.Events.{runs, updates_after, KeepsTime, TimeWasKept}
+use Rattle.demands.specs.Events.{runs, updates_after, KeepsTime}
 use Rattle.demands.proofs.Demand3.{time_is_kept}
 
 -- ---- a chip that keeps time: Sunday 1 January of year 00, 00:00:00, binary and 24 hours, just released on the 32.768 kHz base

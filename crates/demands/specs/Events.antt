@@ -1,8 +1,6 @@
 -- Demand 3: what may happen to a chip that keeps time, and what it then shows.
 use Rattle.std.specs.Prelude.{◌≡◌, Bool, true, false, cond, ◌&&◌, ◌||◌, List, [], ◌∷◌, ℕ, ◌+◌, ◌-◌, ◌*◌, ◌/◌, ◌≤◌, ◌<◌, eqb, leb}
-use Rattle.fields.specs.declared.Mode.{Mode}
 use Rattle.fields.specs.Modes.{mode_of}
-use Rattle.times.specs.declared.Time.{Time}
 use Rattle.times.specs.Times.{is_valid, time_of, later}
 use Rattle.divider.specs.Divider.{running, step_of, end_of, span, count_of}
 use Rattle.registers.specs.Bits.{dv_of, set_on, dse_on}

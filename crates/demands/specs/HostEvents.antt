@@ -1,5 +1,5 @@
 -- Demand 3 for a C host, which holds the chip as 72 bytes: the same events, as calls on the bytes.
-use Rattle.std.specs.Prelude.{◌≡◌, Bool, cond, List, [], ◌∷◌, ℕ, ◌+◌, ◌<◌}
+use Rattle.std.specs.Prelude.{Bool, cond, List, [], ◌∷◌, ℕ, ◌+◌, ◌<◌}
 use Rattle.saved.specs.Record.{byte_at}
 use Rattle.mc146818.specs.Calls as host
 use Rattle.demands.specs.Events.{Event, runs, reads, levels, writes}

@@ -2,21 +2,17 @@
 use mathlib.Core.Path.{◌≡◌, refl, sym, ap, ◌∙◌}
 use mathlib.Core.Bool.{Bool, true, false, cond, ◌&&◌, ◌||◌, not}
 use mathlib.Core.Logic.{◌⊎◌, inl, inr}
-use mathlib.Core.List.{List, [], ◌∷◌}
-use Prim.Native.Nat.{ℕ, zero, suc, ◌+◌, ◌*◌, ◌/◌, ◌%◌, ◌≤◌, ◌<◌}
+use Prim.Native.Nat.{ℕ, zero, suc, ◌+◌}
 use native.Mathlib.Numerals.{add-one}
 use native.Mathlib.Omega.{arith}
-use lib.Dec.{eqb, leb, ltb}
-use Rattle.cases.proofs.Tests.{either, and_true}
+use Rattle.cases.proofs.Tests.{either}
 use Rattle.fields.specs.declared.Mode.{Mode}
 use Rattle.fields.specs.Modes.{mode_of}
 use Rattle.calendar.specs.declared.Clock.{Clock}
-use Rattle.calendar.specs.declared.Advanced.{Advanced}
 use Rattle.calendar.specs.Advance.{one_second_on, ordinary}
 use Rattle.calendar.specs.Daylight.{advance}
 use Rattle.calendar.specs.Update.{update}
 use Rattle.times.specs.Times.{seconds_on}
-use Rattle.divider.specs.declared.Divider.{Divider}
 use Rattle.divider.specs.Divider.{running, moved, at_zero, at_end}
 use Rattle.divider.proofs.Laws.Formula as course
 use Rattle.divider.proofs.Laws.Formula.{Course}

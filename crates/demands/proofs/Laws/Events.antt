@@ -1,13 +1,13 @@
 -- Every event that may happen leaves the registers on the divider's course, and the rules kept.
-use mathlib.Core.Path.{◌≡◌, refl, sym, ap, ◌∙◌}
-use mathlib.Core.Bool.{Bool, true, false, cond, ◌&&◌, ◌||◌, not}
+use mathlib.Core.Path.{◌≡◌, ◌∙◌}
+use mathlib.Core.Bool.{Bool, true, false, cond}
 use mathlib.Core.Logic.{◌⊎◌, inl, inr}
 use mathlib.Core.List.{List, [], ◌∷◌}
-use Prim.Native.Nat.{ℕ, zero, suc, ◌+◌, ◌*◌, ◌/◌, ◌%◌, ◌≤◌, ◌<◌}
+use Prim.Native.Nat.{ℕ, ◌+◌, ◌*◌, ◌/◌, ◌%◌, ◌≤◌, ◌<◌}
 use native.Mathlib.Omega.{arith}
-use lib.Dec.{eqb, leb, ltb}
+use lib.Dec.{eqb, leb}
 use borrow.Author.Tests.{eqb-true, lt-ltb, le-ltb}
-use Rattle.cases.proofs.Tests.{either, and_left, and_right, ltb_case, leb_case}
+use Rattle.cases.proofs.Tests.{either, and_left, and_right, leb_case}
 use Rattle.fields.specs.declared.Mode.{Mode}
 use Rattle.fields.specs.Modes.{mode_of}
 use Rattle.calendar.specs.declared.Clock.{Clock}
@@ -17,13 +17,11 @@ use Rattle.divider.proofs.Laws.Formula.{Course}
 use Rattle.registers.specs.declared.Regs.{Regs}
 use Rattle.registers.specs.declared.Verdict.{Verdict}
 use Rattle.registers.specs.declared.Verdict.TheVariants as verdict
-use Rattle.registers.specs.Bits.{dv_of, set_on, dse_on}
 use Rattle.registers.specs.Access.{access, write_access}
 use Rattle.registers.specs.Calls.{after_read, write_plain, with_pins}
 use Rattle.registers.specs.Calls as registers
-use Rattle.ticks.specs.Tick as tick
 use Rattle.chip.specs.declared.Chip.{Chip}
-use Rattle.chip.specs.Chips.{written, ticks}
+use Rattle.chip.specs.Chips.{written}
 use Rattle.chip.specs.Calls.{read_by, read, write_by, write, run, pins}
 use Rattle.chip.specs.Rules.{Rules}
 use Rattle.chip.proofs.Laws.Run.{ticks_work_on_registers}

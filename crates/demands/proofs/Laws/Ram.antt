@@ -3,12 +3,12 @@ use mathlib.Core.Path.{◌≡◌, refl, sym, ap, ◌∙◌}
 use mathlib.Core.Bool.{Bool, true, false, cond, ◌&&◌}
 use mathlib.Core.Logic.{◌⊎◌, inl, inr}
 use mathlib.Core.List.{List, [], ◌∷◌}
-use Prim.Native.Nat.{ℕ, ◌+◌, ◌-◌, ◌≤◌, ◌<◌}
+use Prim.Native.Nat.{ℕ, ◌-◌, ◌≤◌, ◌<◌}
 use native.Mathlib.Omega.{arith}
 use lib.Dec.{eqb, leb}
-use lib.ListN.{length, get_or, set}
+use lib.ListN.{get_or, set}
 use lib.Seq.{get_or-set_same, get_or-set_other}
-use borrow.Author.Tests.{ne_eqb, eq-eqb}
+use borrow.Author.Tests.{ne_eqb}
 use Rattle.cases.proofs.Tests.{eqb_case, leb_case, and_false}
 use Rattle.refusals.specs.Numbers.{number_of}
 use Rattle.refusals.proofs.Laws.{refusal_has_number}
@@ -17,7 +17,7 @@ use Rattle.registers.specs.declared.Verdict.TheVariants as verdict
 use Rattle.registers.specs.Access.{write_access}
 use Rattle.chip.specs.declared.Chip.{Chip}
 use Rattle.chip.specs.Chips.{location, written}
-use Rattle.chip.specs.Calls.{answer_number, read, write_by, write, run, pins}
+use Rattle.chip.specs.Calls.{answer_number, write_by, write}
 use Rattle.chip.specs.Rules.{Rules}
 use Rattle.chip.proofs.Laws.Locations.{location_in_ram}
 use Rattle.chip.proofs.Laws.Changes.{read_leaves_ram, run_leaves_ram, pins_leave_ram}
