@@ -1,13 +1,13 @@
 -- A file, block after block: what is printed for a whole is what is printed for its parts, one after the other.
 use mathlib.Core.Path.{◌≡◌, refl, sym, ap, ◌∙◌}
 use mathlib.Core.List.{List, [], ◌∷◌, ◌++◌, append_assoc}
-use Prim.Native.Nat.{ℕ, zero, suc, ◌+◌, ◌*◌, ◌/◌, ◌%◌, ◌≤◌, ◌<◌}
+use Prim.Native.Nat.{ℕ, suc, ◌+◌, ◌*◌, ◌/◌, ◌%◌, ◌≤◌, ◌<◌}
 use native.Mathlib.Omega.{arith}
-use lib.ListN.{length, get_or, drop, length-append, length-drop, drop_of_length-le}
+use lib.ListN.{length, get_or, drop, length-append, drop_of_length-le}
 use lib.Seq.{drop-cons, sets, length-sets}
 use Rattle.events.specs.declared.State.{State}
 use Rattle.events.specs.Text.{line_room}
-use Rattle.events.specs.Files.{start, after, line, part_line, state_after, printed_from, printed}
+use Rattle.events.specs.Files.{after, line, part_line, state_after, printed_from, printed}
 use Rattle.events.proofs.Laws.Text.{one_behind_the_other}
 
 -- ---- whole records
