@@ -8,7 +8,7 @@ ghost use Rattle.events.specs.Files.{state_after, printed_from};
 ghost use Rattle.rtc_events.specs.Blocks.{whole_of, part_of};
 
 use events::State;
-use libc::{STDIN_FILENO, STDOUT_FILENO};
+use std::io::{self, Read, Write};
 
 // How far the program has come: the bytes left of a record that is not whole yet, and whether to read on.
 #[derive(Clone, Copy)]
@@ -35,16 +35,14 @@ fn text_buffer() -> [u8; 393216]
 
 // Reads once behind the bytes that are left, and answers how many there are now: no more at the end of the input, and none after a read
 // that failed, since what it cut is not known to be the input's last record.
-fn refill(input: &mut [u8], left: usize) -> usize
+fn refill(rt: &impl Input, input: &mut [u8], left: usize) -> usize
     requires { left ≤ length input.old }
     ensures { (result ≤ length input.old) × (take left input.new ≡ take left input.old) }
 {
-    let got = libc::read(STDIN_FILENO, &mut input[left..]);
-    if got < 0 {
-        return 0;
+    match rt.reader().read(&mut input[left..]) {
+        Ok(n) => left + n,
+        Err(_) => 0,
     }
-    let n = io::count(got, &input[left..]);
-    left + n
 }
 
 // Moves n bytes to the start of the block.
@@ -84,11 +82,17 @@ fn work_block(input: &mut [u8], out: &mut [u8], state: State, total: usize) -> B
 }
 
 // One read, and the lines of the records that are whole with it, written before the next read waits.
-fn turn(input: &mut [u8], out: &mut [u8], state: State, left: usize) -> Progress
+fn turn(
+    rt: &(impl Input + Print),
+    input: &mut [u8],
+    out: &mut [u8],
+    state: State,
+    left: usize,
+) -> Progress
     requires { (left < 4) × (4 ≤ length input.old) × (length input.old / 4 * line_room ≤ length out.old) }
     ensures { result.left < 4 }
 {
-    let total = refill(input, left);
+    let total = refill(rt, input, left);
     if total <= left {
         return Progress {
             state,
@@ -99,7 +103,7 @@ fn turn(input: &mut [u8], out: &mut [u8], state: State, left: usize) -> Progress
     let b = work_block(input, out, state, total);
     let next = b.state;
     let end = b.end;
-    let is_written = io::write_all(STDOUT_FILENO, &out[..end]);
+    let is_written = io::writer(rt).write_all(&out[..end]).is_ok();
     if is_written {
         return Progress {
             state: next,
@@ -126,14 +130,14 @@ fn turns_left(turns: u64, going: bool) -> u64
 }
 
 // All of the input, and the line of a last part-record.
-fn work_input(input: &mut [u8], out: &mut [u8])
+fn work_input(rt: &(impl Input + Print), input: &mut [u8], out: &mut [u8])
     requires { (4 ≤ length input.old) × (length input.old / 4 * line_room ≤ length out.old) }
 {
     let mut state = events::start();
     let mut left: usize = 0;
     let mut turns = u64::MAX;
     while 0 < turns {
-        let p = turn(input, out, state, left);
+        let p = turn(rt, input, out, state, left);
         let s = p.state;
         state = s;
         left = p.left;
@@ -141,12 +145,12 @@ fn work_input(input: &mut [u8], out: &mut [u8])
     }
     if 0 < left {
         let end = events::part(out, state);
-        io::write_all(STDOUT_FILENO, &out[..end]);
+        let _ = io::writer(rt).write_all(&out[..end]);
     }
 }
 
-fn main() {
-    let mut input = io::large_buffer();
+fn main(rt: HostRuntime) {
+    let mut input = [0u8; 65536];
     let mut out = text_buffer();
-    work_input(&mut input, &mut out);
+    work_input(&rt, &mut input, &mut out);
 }

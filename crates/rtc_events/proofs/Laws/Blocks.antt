@@ -1,9 +1,9 @@
 -- A block's text is what its file prints: the lines of its whole records, and then those of what is left with what the next read brings.
-use mathlib.Core.Path.{◌≡◌, sym, ap, ◌∙◌}
+use mathlib.Core.Path.{◌≡◌, ap, ◌∙◌}
 use mathlib.Core.List.{List, ◌++◌}
 use Prim.Native.Nat.{ℕ, ◌+◌, ◌-◌, ◌%◌, ◌≤◌}
 use native.Mathlib.Omega.{arith}
-use lib.ListN.{length, take, drop}
+use lib.ListN.{length, take}
 use lib.Seq.{take-add, length-take-le}
 use Rattle.events.specs.declared.State.{State}
 use Rattle.events.specs.Files.{state_after, printed_from}
