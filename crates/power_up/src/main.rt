@@ -3,9 +3,8 @@
 
 mod show;
 
-use std::io::{self, Write};
-
 use chip::{Chip, ReadAnswer};
+use std::io::{self, Write};
 
 // What a location is to be written with: its own address, or one byte for all.
 #[derive(Clone, Copy)]
@@ -60,26 +59,24 @@ fn byte_for(pattern: Pattern, address: u32) -> u8 {
 }
 
 // Writes the 16 locations from `first` on.
-#[tactic(auto, using(std::proofs::Common::arith, std::proofs::Common::rules))]
 fn put_row(rt: &impl Print, chip: Chip, first: u32, pattern: Pattern) -> io::Result<Chip> {
     write(rt, b" ")?;
     let mut c = chip;
     for i in 0..16 {
-        let address = std::num::wrapping_add_u32(first, i);
+        let address = first.wrapping_add(i);
         c = put(rt, c, address, byte_for(pattern, address))?;
     }
     Ok(c)
 }
 
 // Reads the 16 locations from `first` on.
-#[tactic(auto, using(std::proofs::Common::arith, std::proofs::Common::rules))]
 fn get_row(rt: &impl Print, chip: Chip, first: u32) -> io::Result<Chip> {
     write(rt, b"  ")?;
     print!(rt; "{:02x}", first as u64)?;
     write(rt, b" ")?;
     let mut c = chip;
     for i in 0..16 {
-        c = get(rt, c, std::num::wrapping_add_u32(first, i))?;
+        c = get(rt, c, first.wrapping_add(i))?;
     }
     write(rt, b"\n")?;
     Ok(c)
@@ -117,7 +114,7 @@ fn put_all(rt: &impl Print, chip: Chip, pattern: Pattern) -> io::Result<Chip> {
     let b = put_row(rt, a, 16, pattern)?;
     let c = put_row(rt, b, 32, pattern)?;
     let d = put_row(rt, c, 48, pattern)?;
-    Ok(put_beyond(rt, d, pattern.byte)?)
+    put_beyond(rt, d, pattern.byte)
 }
 
 // Reads every location, and shows a line for 16 of them.
@@ -126,7 +123,7 @@ fn get_all(rt: &impl Print, chip: Chip) -> io::Result<Chip> {
     let b = get_row(rt, a, 16)?;
     let c = get_row(rt, b, 32)?;
     let d = get_row(rt, c, 48)?;
-    Ok(get_beyond(rt, d)?)
+    get_beyond(rt, d)
 }
 
 // Writes one byte to every location, and reads all of them.
@@ -134,14 +131,14 @@ fn fill(rt: &impl Print, chip: Chip, byte: u8) -> io::Result<Chip> {
     print!(rt; "{:02x}", byte as u64)?;
     write(rt, b" to all:")?;
     let c = put_all(rt, chip, Pattern { own: false, byte })?;
-    Ok(get_all(rt, c)?)
+    get_all(rt, c)
 }
 
 // Writes to every location its own address, so that no two of them can be one, and reads all of them.
 fn fill_own(rt: &impl Print, chip: Chip) -> io::Result<Chip> {
     write(rt, b"own address to all:")?;
     let c = put_all(rt, chip, Pattern { own: true, byte: 0 })?;
-    Ok(get_all(rt, c)?)
+    get_all(rt, c)
 }
 
 fn locations(rt: &impl Print) -> io::Result<Chip> {
@@ -155,7 +152,7 @@ fn locations(rt: &impl Print) -> io::Result<Chip> {
     let g = fill(rt, f, 0x06)?;
     // SET goes up here, as it did not at the first FF: UIE stays 0.
     let h = fill(rt, g, 0xFF)?;
-    Ok(fill_own(rt, h)?)
+    fill_own(rt, h)
 }
 
 // ---- the pins
@@ -225,7 +222,7 @@ fn to_tick(rt: &impl Print, chip: Chip, from: u32, to: u32) -> io::Result<Chip> 
     write(rt, b"  tick ")?;
     print!(rt; "{}", to as u64)?;
     write(rt, b":")?;
-    Ok(look(rt, done.chip)?)
+    look(rt, done.chip)
 }
 
 // Runs some ticks, and shows the answer.
@@ -241,7 +238,6 @@ fn run(rt: &impl Print, chip: Chip, ticks: u32) -> io::Result<Chip> {
 }
 
 // Ticks one at a time, with a read of C after each, until a flag is up.
-#[tactic(auto, using(std::proofs::Common::arith, std::proofs::Common::rules))]
 fn until_flag(chip: Chip, most: u32) -> Risen {
     let mut c = chip;
     let mut i: u32 = 0;
@@ -325,7 +321,7 @@ fn at_count_zero(rt: &impl Print) -> io::Result<Chip> {
     let b = to_tick(rt, a, 0, 16384)?;
     write(rt, b"4.194304 MHz, rate 1: the pending update is dropped\n")?;
     let c = set_up(b, 10, 0x01);
-    Ok(to_tick(rt, c, 0, 0)?)
+    to_tick(rt, c, 0, 0)
 }
 
 fn periodic(rt: &impl Print) -> io::Result<()> {
@@ -362,7 +358,6 @@ fn alarm(rt: &impl Print) -> io::Result<()> {
 }
 
 // The level of the square wave after each of some ticks.
-#[tactic(auto, using(std::proofs::Common::arith, std::proofs::Common::rules))]
 fn wave(rt: &impl Print, chip: Chip) -> io::Result<Chip> {
     write(rt, b"  SQW ")?;
     let mut c = chip;
@@ -378,7 +373,10 @@ fn wave(rt: &impl Print, chip: Chip) -> io::Result<Chip> {
 }
 
 fn square_wave(rt: &impl Print) -> io::Result<()> {
-    write(rt, b"\nSquare wave on 32.768 kHz: rate 3, rate 4, rate 0, SQWE 0\n")?;
+    write(
+        rt,
+        b"\nSquare wave on 32.768 kHz: rate 3, rate 4, rate 0, SQWE 0\n",
+    )?;
     let a = set_up(ready(0x0A), 10, 0x23);
     let b = wave(rt, a)?;
     let c = wave(rt, set_up(b, 10, 0x24))?;

@@ -1,7 +1,6 @@
 // What the chip answers, as text.
-use std::io::{self, Write};
-
 use chip::{Answer, Chip, ReadAnswer};
+use std::io::{self, Write};
 
 // Writes some bytes to standard output.
 fn write(rt: &impl Print, bytes: &[u8]) -> io::Result<()> {
