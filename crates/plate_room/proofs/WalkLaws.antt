@@ -1,13 +1,13 @@
 -- What the proof of `walk` uses.
 use native.Mathlib.Omega.{arith}
-use mathlib.Core.Path.{◌≡◌, refl}
+use mathlib.Core.Path.{◌≡◌}
 use mathlib.Core.Bool.{Bool, true, false, cond}
-use Prim.Native.Nat.{ℕ, suc, ◌+◌, ◌-◌, ◌≤◌}
+use Prim.Native.Nat.{ℕ, suc, ◌+◌, ◌≤◌}
 use lib.Dec.{eqb}
 use Rattle.fields.specs.declared.Mode.{Mode}
 use Rattle.calendar.specs.declared.Clock.{Clock}
 use Rattle.calendar.specs.declared.Advanced.{Advanced}
-use Rattle.calendar.specs.Advance.{ordinary, one_second_on}
+use Rattle.calendar.specs.Advance.{ordinary}
 use Rattle.times.specs.Times.{seconds_on}
 use Rattle.plate_room.specs.Walk.{date_moved, date_moves}
 

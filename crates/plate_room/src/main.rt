@@ -8,10 +8,9 @@ ghost use Rattle.times.specs.Times.{seconds_on};
 ghost use Rattle.times.specs.Calls.{clock_at};
 ghost use Rattle.plate_room.specs.Walk.{date_moved, date_moves};
 
-use std::io::{self, Write};
-
 use calendar::{Alarm, Clock};
 use fields::Mode;
+use std::io::{self, Write};
 use times::{Decoded, Encoded, Time};
 
 // The modes of the examples.
@@ -75,19 +74,23 @@ fn write_mode(rt: &impl Print, mode: Mode) -> io::Result<()> {
 // Writes the bytes of a clock.
 fn write_clock(rt: &impl Print, clock: Clock) -> io::Result<()> {
     let text = text::clock_text(clock);
-    write(rt, &text)?;
-    Ok(())
+    write(rt, &text)
 }
 
 // Writes the name and the mode of an example.
 fn write_name(rt: &impl Print, name: &[u8], mode: Mode) -> io::Result<()> {
     write(rt, name)?;
-    write_mode(rt, mode)?;
-    Ok(())
+    write_mode(rt, mode)
 }
 
 // Writes an example up to the end of its bytes.
-fn write_row(rt: &impl Print, name: &[u8], mode: Mode, before: Clock, after: Clock) -> io::Result<()> {
+fn write_row(
+    rt: &impl Print,
+    name: &[u8],
+    mode: Mode,
+    before: Clock,
+    after: Clock,
+) -> io::Result<()> {
     write_name(rt, name, mode)?;
     write_clock(rt, before)?;
     write(rt, b" -> ")?;
@@ -100,8 +103,7 @@ fn show(rt: &impl Print, name: &[u8], mode: Mode, bytes: &[u8; 7]) -> io::Result
     let before = clock_in(bytes);
     let a = calendar::advance(mode, false, false, before);
     write_row(rt, name, mode, before, a.clock)?;
-    write(rt, b"\n")?;
-    Ok(())
+    write(rt, b"\n")
 }
 
 // One update with daylight saving, and the mark of the repeated hour after it.
@@ -162,30 +164,34 @@ fn walk(mode: Mode, start: Clock, turns: u32) -> Walked
 }
 
 // A number of updates, and how often the date moved.
-fn show_walk(rt: &impl Print, name: &[u8], mode: Mode, bytes: &[u8; 7], turns: u32) -> io::Result<()> {
+fn show_walk(
+    rt: &impl Print,
+    name: &[u8],
+    mode: Mode,
+    bytes: &[u8; 7],
+    turns: u32,
+) -> io::Result<()> {
     let before = clock_in(bytes);
     let w = walk(mode, before, turns);
     write_row(rt, name, mode, before, w.clock)?;
     write(rt, b"  updates: ")?;
-    print!(rt; "{}", turns as u64)?;
+    print!(rt; "{turns}")?;
     write(rt, b", date moves: ")?;
-    print!(rt; "{}", w.moves as u64)?;
-    write(rt, b"\n")?;
-    Ok(())
+    print!(rt; "{}", w.moves)?;
+    write(rt, b"\n")
 }
 
 // Writes the number of an answer: 0, or that of a refusal.
 fn write_answer(rt: &impl Print, number: u8) -> io::Result<()> {
     write(rt, b" -> answer ")?;
-    print!(rt; "{}", number as u64)?;
-    write(rt, b", ")?;
-    Ok(())
+    print!(rt; "{number}")?;
+    write(rt, b", ")
 }
 
 // Writes a weekday and seconds.
 fn write_time(rt: &impl Print, time: Time) -> io::Result<()> {
     write(rt, b"weekday ")?;
-    print!(rt; "{}", time.weekday as u64)?;
+    print!(rt; "{}", time.weekday)?;
     write(rt, b", seconds ")?;
     print!(rt; "{}", time.seconds)?;
     Ok(())
@@ -202,14 +208,16 @@ fn show_decode(rt: &impl Print, name: &[u8], bytes: &[u8; 7]) -> io::Result<()> 
         }
         Decoded::Refused(refusal) => {
             write_answer(rt, refusals::number(refusal))?;
-            write_time(rt, Time {
-                weekday: 0,
-                seconds: 0,
-            })?;
+            write_time(
+                rt,
+                Time {
+                    weekday: 0,
+                    seconds: 0,
+                },
+            )?;
         }
     }
-    write(rt, b"\n")?;
-    Ok(())
+    write(rt, b"\n")
 }
 
 // A time turned into seven bytes. They start as FF, so that zeros in them were written.
@@ -226,21 +234,26 @@ fn show_encode(rt: &impl Print, name: &[u8], time: Time) -> io::Result<()> {
         }
     }
     write_clock(rt, clock_in(&bytes))?;
-    write(rt, b"\n")?;
-    Ok(())
+    write(rt, b"\n")
 }
 
 // The ends of days, months and years.
 fn ends(rt: &impl Print) -> io::Result<()> {
-    show(rt, b"Year's end            ",
+    show(
+        rt,
+        b"Year's end            ",
         BCD_24,
         b"\x59\x59\x23\x06\x31\x12\x99",
     )?;
-    show(rt, b"28 February, year 00  ",
+    show(
+        rt,
+        b"28 February, year 00  ",
         BINARY_24,
         b"\x3B\x3B\x17\x02\x1C\x02\x00",
     )?;
-    show(rt, b"28 February, year 01  ",
+    show(
+        rt,
+        b"28 February, year 01  ",
         BINARY_24,
         b"\x3B\x3B\x17\x04\x1C\x02\x01",
     )?;
@@ -249,19 +262,27 @@ fn ends(rt: &impl Print) -> io::Result<()> {
 
 // The hours of a twelve-hour clock.
 fn half_days(rt: &impl Print) -> io::Result<()> {
-    show(rt, b"11 PM, date moves     ",
+    show(
+        rt,
+        b"11 PM, date moves     ",
         BCD_12,
         b"\x59\x59\x91\x05\x15\x02\x79",
     )?;
-    show(rt, b"11 AM, date stays     ",
+    show(
+        rt,
+        b"11 AM, date stays     ",
         BCD_12,
         b"\x59\x59\x11\x05\x15\x02\x79",
     )?;
-    show(rt, b"12 AM, date stays     ",
+    show(
+        rt,
+        b"12 AM, date stays     ",
         BCD_12,
         b"\x59\x59\x12\x05\x15\x02\x79",
     )?;
-    show(rt, b"12 PM, date stays     ",
+    show(
+        rt,
+        b"12 PM, date stays     ",
         BCD_12,
         b"\x59\x59\x92\x05\x15\x02\x79",
     )?;
@@ -270,15 +291,21 @@ fn half_days(rt: &impl Print) -> io::Result<()> {
 
 // The seconds in both data modes.
 fn seconds(rt: &impl Print) -> io::Result<()> {
-    show(rt, b"Seconds 09            ",
+    show(
+        rt,
+        b"Seconds 09            ",
         BCD_24,
         b"\x09\x58\x05\x05\x15\x02\x79",
     )?;
-    show(rt, b"Seconds 09            ",
+    show(
+        rt,
+        b"Seconds 09            ",
         BINARY_24,
         b"\x09\x3A\x05\x05\x0F\x02\x4F",
     )?;
-    show(rt, b"Seconds 3C            ",
+    show(
+        rt,
+        b"Seconds 3C            ",
         BINARY_24,
         b"\x3C\x3A\x05\x05\x0F\x02\x4F",
     )?;
@@ -287,22 +314,30 @@ fn seconds(rt: &impl Print) -> io::Result<()> {
 
 // What the stand-in before this one got wrong: it moved the date at one as well.
 fn midnight(rt: &impl Print) -> io::Result<()> {
-    show_walk(rt, b"Midnight              ",
+    show_walk(
+        rt,
+        b"Midnight              ",
         BCD_12,
         b"\x59\x59\x91\x05\x15\x02\x79",
         1,
     )?;
-    show_walk(rt, b"One o'clock           ",
+    show_walk(
+        rt,
+        b"One o'clock           ",
         BCD_12,
         b"\x59\x59\x12\x06\x16\x02\x79",
         1,
     )?;
-    show_walk(rt, b"Midnight to one       ",
+    show_walk(
+        rt,
+        b"Midnight to one       ",
         BCD_12,
         b"\x59\x59\x91\x05\x15\x02\x79",
         3601,
     )?;
-    show_walk(rt, b"Noon to one           ",
+    show_walk(
+        rt,
+        b"Noon to one           ",
         BCD_12,
         b"\x59\x59\x11\x05\x15\x02\x79",
         3601,
@@ -312,23 +347,33 @@ fn midnight(rt: &impl Print) -> io::Result<()> {
 
 // The two daylight changes.
 fn daylight(rt: &impl Print) -> io::Result<()> {
-    show_daylight(rt, b"DSE, 26 April         ",
+    show_daylight(
+        rt,
+        b"DSE, 26 April         ",
         false,
         b"\x59\x59\x01\x01\x26\x04\x81",
     )?;
-    show_daylight(rt, b"DSE, 23 April         ",
+    show_daylight(
+        rt,
+        b"DSE, 23 April         ",
         false,
         b"\x59\x59\x01\x01\x23\x04\x78",
     )?;
-    let first = show_daylight(rt, b"DSE, October, first   ",
+    let first = show_daylight(
+        rt,
+        b"DSE, October, first   ",
         false,
         b"\x59\x59\x01\x01\x25\x10\x81",
     )?;
-    let again = show_daylight(rt, b"DSE, October, again   ",
+    let again = show_daylight(
+        rt,
+        b"DSE, October, again   ",
         first,
         b"\x59\x59\x01\x01\x25\x10\x81",
     )?;
-    show_daylight(rt, b"DSE, October, midnight",
+    show_daylight(
+        rt,
+        b"DSE, October, midnight",
         again,
         b"\x59\x59\x23\x01\x25\x10\x81",
     )?;
@@ -352,19 +397,27 @@ fn alarms(rt: &impl Print) -> io::Result<()> {
         minutes: 0x58,
         hours: 0x05,
     };
-    show_alarm(rt, b"Alarm C0              ",
+    show_alarm(
+        rt,
+        b"Alarm C0              ",
         any,
         b"\x20\x58\x05\x05\x15\x02\x79",
     )?;
-    show_alarm(rt, b"Alarm BF              ",
+    show_alarm(
+        rt,
+        b"Alarm BF              ",
         one,
         b"\x20\x58\x05\x05\x15\x02\x79",
     )?;
-    show_alarm(rt, b"Alarm BF at a BF      ",
+    show_alarm(
+        rt,
+        b"Alarm BF at a BF      ",
         one,
         b"\x20\xBF\x05\x05\x15\x02\x79",
     )?;
-    show_alarm(rt, b"Alarm at the old time ",
+    show_alarm(
+        rt,
+        b"Alarm at the old time ",
         old,
         b"\x20\x58\x05\x05\x15\x02\x79",
     )?;
@@ -373,22 +426,40 @@ fn alarms(rt: &impl Print) -> io::Result<()> {
 
 // Times as numbers, and what is refused.
 fn numbers(rt: &impl Print) -> io::Result<()> {
-    show_decode(rt, b"15 February 79        ", b"\x21\x58\x05\x05\x15\x02\x79")?;
-    show_decode(rt, b"Seconds 0A            ", b"\x0A\x58\x05\x05\x15\x02\x79")?;
-    show_decode(rt, b"30 February 79        ", b"\x21\x58\x05\x05\x30\x02\x79")?;
-    show_encode(rt, b"15 February 79        ",
+    show_decode(
+        rt,
+        b"15 February 79        ",
+        b"\x21\x58\x05\x05\x15\x02\x79",
+    )?;
+    show_decode(
+        rt,
+        b"Seconds 0A            ",
+        b"\x0A\x58\x05\x05\x15\x02\x79",
+    )?;
+    show_decode(
+        rt,
+        b"30 February 79        ",
+        b"\x21\x58\x05\x05\x30\x02\x79",
+    )?;
+    show_encode(
+        rt,
+        b"15 February 79        ",
         Time {
             weekday: 5,
             seconds: 2496981501,
         },
     )?;
-    show_encode(rt, b"Weekday 8             ",
+    show_encode(
+        rt,
+        b"Weekday 8             ",
         Time {
             weekday: 8,
             seconds: 2496981501,
         },
     )?;
-    show_encode(rt, b"A second too late     ",
+    show_encode(
+        rt,
+        b"A second too late     ",
         Time {
             weekday: 5,
             seconds: 3155760000,
@@ -398,7 +469,10 @@ fn numbers(rt: &impl Print) -> io::Result<()> {
 }
 
 fn main(rt: HostRuntime) -> io::Result<()> {
-    write(&rt, b"Bytes in hex: seconds minutes hours weekday date month year\n")?;
+    write(
+        &rt,
+        b"Bytes in hex: seconds minutes hours weekday date month year\n",
+    )?;
     ends(&rt)?;
     half_days(&rt)?;
     seconds(&rt)?;
