@@ -72,7 +72,7 @@ fn put_row(rt: &impl Print, chip: Chip, first: u32, pattern: Pattern) -> io::Res
 // Reads the 16 locations from `first` on.
 fn get_row(rt: &impl Print, chip: Chip, first: u32) -> io::Result<Chip> {
     write(rt, b"  ")?;
-    print!(rt; "{:02x}", first as u64)?;
+    print!(rt; "{first:02x}")?;
     write(rt, b" ")?;
     let mut c = chip;
     for i in 0..16 {
@@ -128,7 +128,7 @@ fn get_all(rt: &impl Print, chip: Chip) -> io::Result<Chip> {
 
 // Writes one byte to every location, and reads all of them.
 fn fill(rt: &impl Print, chip: Chip, byte: u8) -> io::Result<Chip> {
-    print!(rt; "{:02x}", byte as u64)?;
+    print!(rt; "{byte:02x}")?;
     write(rt, b" to all:")?;
     let c = put_all(rt, chip, Pattern { own: false, byte })?;
     get_all(rt, c)
@@ -220,7 +220,7 @@ fn to_tick(rt: &impl Print, chip: Chip, from: u32, to: u32) -> io::Result<Chip> 
     }
     let done = chip::run(chip, to - from);
     write(rt, b"  tick ")?;
-    print!(rt; "{}", to as u64)?;
+    print!(rt; "{to}")?;
     write(rt, b":")?;
     look(rt, done.chip)
 }
@@ -228,7 +228,7 @@ fn to_tick(rt: &impl Print, chip: Chip, from: u32, to: u32) -> io::Result<Chip> 
 // Runs some ticks, and shows the answer.
 fn run(rt: &impl Print, chip: Chip, ticks: u32) -> io::Result<Chip> {
     write(rt, b"  ")?;
-    print!(rt; "{}", ticks as u64)?;
+    print!(rt; "{ticks}")?;
     write(rt, b" ticks: ")?;
     let done = chip::run(chip, ticks);
     let answer = done.answer;
@@ -265,7 +265,7 @@ fn until_flag(chip: Chip, most: u32) -> Risen {
 fn next_flag(rt: &impl Print, chip: Chip) -> io::Result<Chip> {
     let risen = until_flag(chip, 65536);
     write(rt, b"  next flag after ")?;
-    print!(rt; "{}", risen.ticks as u64)?;
+    print!(rt; "{}", risen.ticks)?;
     write(rt, b" ticks\n")?;
     Ok(risen.chip)
 }

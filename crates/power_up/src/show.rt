@@ -14,7 +14,7 @@ pub fn answer(rt: &impl Print, given: Answer) -> io::Result<()> {
             write(rt, b"0")?;
         }
         Answer::Refused(why) => {
-            print!(rt; "{}", refusals::number(why) as u64)?;
+            print!(rt; "{}", refusals::number(why))?;
         }
     }
     Ok(())
@@ -24,7 +24,7 @@ pub fn answer(rt: &impl Print, given: Answer) -> io::Result<()> {
 fn refused(rt: &impl Print, given: ReadAnswer) -> io::Result<()> {
     if let ReadAnswer::Refused(why) = given {
         write(rt, b" r")?;
-        print!(rt; "{}", refusals::number(why) as u64)?;
+        print!(rt; "{}", refusals::number(why))?;
     }
     Ok(())
 }
@@ -35,7 +35,7 @@ pub fn read(rt: &impl Print, given: ReadAnswer) -> io::Result<()> {
         return refused(rt, given);
     };
     write(rt, b" ")?;
-    print!(rt; "{:02x}", byte as u64)?;
+    print!(rt; "{byte:02x}")?;
     Ok(())
 }
 
