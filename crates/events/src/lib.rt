@@ -58,7 +58,6 @@ fn answer_number(answer: Answer) -> u8
 }
 
 // A read takes its answer apart: a refused one has no byte, and shows 255.
-#[tactic(auto, unfolding(chip::specs::Calls::read))]
 fn read_event(chip: Chip, address: u8) -> Event
     ensures { result ≡ read_event (read chip address) }
 {
@@ -80,7 +79,6 @@ fn read_event(chip: Chip, address: u8) -> Event
 }
 
 // A write of the value's low byte.
-#[tactic(auto, unfolding(chip::specs::Calls::write))]
 fn write_event(chip: Chip, address: u8, value: u8) -> Event
     ensures { result ≡ plain_event (write chip address value) }
 {
@@ -95,7 +93,6 @@ fn write_event(chip: Chip, address: u8, value: u8) -> Event
 }
 
 // A run of as many ticks as the whole value says.
-#[tactic(auto, unfolding(chip::specs::Calls::run))]
 fn run_event(chip: Chip, low: u8, high: u8) -> Event
     ensures { result ≡ plain_event (run chip (low + 256 * high)) }
 {
@@ -202,7 +199,7 @@ fn step(out: &mut [u8], at: usize, state: State, kind: u8, address: u8, low: u8,
 }
 
 // The records of a block, with their lines from the buffer's start on.
-#[tactic(auto, using(crate::proofs::Laws::Files::reached_start, crate::proofs::Laws::Files::four_left, crate::proofs::Laws::Files::reached_next, crate::proofs::Laws::Files::reached_end), unfolding(crate::specs::Files::state_after, crate::specs::Files::printed_from))]
+#[tactic(auto, using(crate::proofs::Laws::Files::reached_start, crate::proofs::Laws::Files::four_left, crate::proofs::Laws::Files::reached_next, crate::proofs::Laws::Files::reached_end))]
 pub fn work(input: &[u8], out: &mut [u8], state: State) -> Worked
     requires { (length input.now % 4 ≡ 0) × (length input.now / 4 * line_room ≤ length out.old) }
     ensures { (result.state ≡ state_after state input.now)

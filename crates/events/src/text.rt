@@ -14,7 +14,7 @@ fn put_two(out: &mut [u8], at: usize, n: u32)
 }
 
 // Puts a number from `at` on, and answers the place after it. Two digits a turn halve the divisions, which wait for each other.
-#[tactic(auto, using(crate::proofs::Laws::Text::digit_length, crate::proofs::Laws::Text::two_length, crate::proofs::Laws::Text::hundreds_length, crate::proofs::Laws::Text::digit_put, crate::proofs::Laws::Text::two_put, crate::proofs::Laws::Text::number_put))]
+#[tactic(auto, using(crate::proofs::Laws::Text::digit_length, crate::proofs::Laws::Text::two_length, crate::proofs::Laws::Text::hundreds_length, crate::proofs::Laws::Text::digit_put))]
 fn put_number(out: &mut [u8], at: usize, n: u32) -> usize
     requires { at + length (decimal n) ≤ length out.old }
     ensures { (result ≡ at + length (decimal n)) × (out.new ≡ sets out.old at (decimal n)) }

@@ -4,7 +4,8 @@
 mod show;
 
 use chip::{Chip, ReadAnswer};
-use std::io::{self, Write};
+use show::write;
+use std::io;
 
 // What a location is to be written with: its own address, or one byte for all.
 #[derive(Clone, Copy)]
@@ -21,11 +22,6 @@ struct Risen {
 }
 
 // ---- single calls
-
-// Writes some bytes to standard output.
-fn write(rt: &impl Print, bytes: &[u8]) -> io::Result<()> {
-    io::writer(rt).write_all(bytes)
-}
 
 // Writes a location, and shows the answer.
 fn put(rt: &impl Print, chip: Chip, address: u32, byte: u8) -> io::Result<Chip> {

@@ -3,7 +3,7 @@ use chip::{Answer, Chip, ReadAnswer};
 use std::io::{self, Write};
 
 // Writes some bytes to standard output.
-fn write(rt: &impl Print, bytes: &[u8]) -> io::Result<()> {
+pub fn write(rt: &impl Print, bytes: &[u8]) -> io::Result<()> {
     io::writer(rt).write_all(bytes)
 }
 

@@ -46,7 +46,7 @@ fn refill(rt: &impl Input, input: &mut [u8], left: usize) -> usize
 }
 
 // Moves n bytes to the start of the block.
-#[tactic(auto, using(crate::proofs::Laws::Keep::none_moved, crate::proofs::Laws::Keep::one_more_moved))]
+#[tactic(auto, using(crate::proofs::Laws::Keep::none_moved))]
 fn keep(input: &mut [u8], from: usize, n: usize)
     requires { from + n ≤ length input.old }
     ensures { take n input.new ≡ take n (drop from input.old) }
@@ -59,7 +59,6 @@ fn keep(input: &mut [u8], from: usize, n: usize)
 }
 
 // The lines of the records that are whole among the first bytes of a block. What is left of those bytes goes to its start.
-#[tactic(auto, unfolding(events::specs::Files::state_after, events::specs::Files::printed_from))]
 fn work_block(input: &mut [u8], out: &mut [u8], state: State, total: usize) -> Block
     requires { (total ≤ length input.old) × (length input.old / 4 * line_room ≤ length out.old) }
     ensures { (result.state ≡ state_after state (whole_of total input.old))
