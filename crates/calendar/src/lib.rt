@@ -10,7 +10,7 @@ ghost use Rattle.calendar.specs.Update.{matches_byte, alarm_matches, update};
 use fields::Mode;
 
 // The clock's locations 0, 2, 4, 6, 7, 8 and 9.
-#[derive(Clone, Copy)]
+#[derive(Clone, Copy, Debug, PartialEq, Eq)]
 pub struct Clock {
     pub seconds: u8,
     pub minutes: u8,
@@ -22,7 +22,7 @@ pub struct Clock {
 }
 
 // The alarm's locations 1, 3 and 5.
-#[derive(Clone, Copy)]
+#[derive(Clone, Copy, Debug, PartialEq, Eq)]
 pub struct Alarm {
     pub seconds: u8,
     pub minutes: u8,
@@ -30,14 +30,14 @@ pub struct Alarm {
 }
 
 // The clock one second on, and whether this Sunday's repeated hour has been used.
-#[derive(Clone, Copy)]
+#[derive(Clone, Copy, Debug, PartialEq, Eq)]
 pub struct Advanced {
     pub clock: Clock,
     pub used: bool,
 }
 
 // What an update leaves: the clock, the mark of the repeated hour, and whether the alarm matches.
-#[derive(Clone, Copy)]
+#[derive(Clone, Copy, Debug, PartialEq, Eq)]
 pub struct Updated {
     pub clock: Clock,
     pub used: bool,

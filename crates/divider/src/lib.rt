@@ -1,208 +1,244 @@
-// The divider chain: a count that ticks move by the step of the selected base, and what hangs on it.
-// Only this crate looks into a `Divider`.
+//! The divider chain: a count that ticks move by the step of the selected base, and what hangs on it. Only this crate looks into a `Divider`.
 #![tactic(auto)]
 
 ghost use Rattle.std.specs.Prelude.{◌≡◌, ◌/◌, ◌%◌, ◌^◌, ◌<◌, ◌≤◌};
 ghost use Rattle.divider.specs.Divider as meaning;
 
-// The number of values that the count has.
-const SPAN: u32 = 4194304;
+/// The number of values that the count has, from 0 on.
+const SPAN: u32 = 4_194_304;
 
-// Half the span: where the count is held, and so half a second before the first 1 Hz edge.
-const HALF: u32 = 2097152;
+/// Half the span: where the count is held, and so half a second before the first 1 Hz edge.
+const HALF: u32 = 2_097_152;
 
-#[derive(Clone, Copy)]
+/// The count at which the closed window opens.
+const WINDOW: u32 = 1024;
+
+/// A time base on which the divider runs, as the bits DV2 to DV0 of register A select it.
+#[derive(Clone, Copy, Debug, PartialEq, Eq)]
+pub enum Base {
+    /// 000, 4.194304 MHz.
+    Fastest,
+    /// 001, 1.048576 MHz.
+    Middle,
+    /// 010, 32.768 kHz.
+    Slowest,
+}
+
+impl Base {
+    /// The base that the number in DV2 to DV0 selects, if the divider runs with it: 0, 1 or 2.
+    pub fn selected(dv: u8) -> Option<Self>
+        ensures { result ≡ meaning.selected dv }
+    {
+        match dv {
+            0 => Some(Base::Fastest),
+            1 => Some(Base::Middle),
+            2 => Some(Base::Slowest),
+            _ => None,
+        }
+    }
+
+    /// What a tick adds to the count.
+    pub fn step(self) -> u32
+        ensures { result ≡ meaning.step_on self }
+    {
+        match self {
+            Base::Fastest => 1,
+            Base::Middle => 4,
+            Base::Slowest => 128,
+        }
+    }
+
+    /// E, the count at which a pending update ends: 2,064, or 9,344 on the slowest base.
+    pub fn end(self) -> u32
+        ensures { result ≡ meaning.end_on self }
+    {
+        match self {
+            Base::Fastest | Base::Middle => 2064,
+            Base::Slowest => 9344,
+        }
+    }
+
+    /// How far a count is past a multiple of the step. Each divisor is a number, so that none is divided by as it runs.
+    fn past_step(self, count: u32) -> u32
+        ensures past { result ≡ count % meaning.step_on self }
+        ensures within { result ≤ count }
+    {
+        match self {
+            Base::Fastest => 0,
+            Base::Middle => count % 4,
+            Base::Slowest => count % 128,
+        }
+    }
+}
+
+/// Whether the number in DV2 to DV0 is a test pattern: 3, 4 or 5, which no write stores.
+pub fn is_test_pattern(dv: u8) -> bool
+    ensures { result ≡ meaning.test_pattern dv }
+{
+    (3..=5).contains(&dv)
+}
+
+/// The count at which a pending update ends; where no base runs, that of the two faster ones.
+#[tactic(auto, unfolding(crate::specs::Divider::end_of))]
+fn end_of(base: Option<Base>) -> u32
+    ensures { result ≡ meaning.end_of base }
+{
+    match base {
+        None => 2064,
+        Some(base) => base.end(),
+    }
+}
+
+/// The rate as which a rate acts. A step of 128 never moves bit 6: the chip lets the two fastest rates act as slower ones there.
+#[tactic(auto, unfolding(crate::specs::Divider::acts_as))]
+fn acts_as(base: Option<Base>, rate: u8) -> u32
+    ensures { result ≡ meaning.acts_as base rate }
+{
+    match base {
+        Some(Base::Slowest) if (1..=2).contains(&rate) => u32::from(rate) + 7,
+        _ => u32::from(rate),
+    }
+}
+
+/// The bit of the count that a rate, 1 to 15, selects.
+#[tactic(auto, using(crate::proofs::Laws::Tap::acts_as_at_most_7_more), unfolding(crate::specs::Divider::tap_of))]
+pub fn tap_of(base: Option<Base>, rate: u8) -> u32
+    ensures { result ≡ meaning.tap_of base rate }
+{
+    5 + acts_as(base, rate)
+}
+
+/// Bit `place` of the count.
+fn bit_at(count: u32, place: u32) -> u32
+    requires { place < 32 }
+    ensures { result ≡ count / 2 ^ place % 2 }
+{
+    (count >> place) % 2
+}
+
+/// The divider: a count that is below 4,194,304 on every chip.
+#[derive(Clone, Copy, Debug, PartialEq, Eq)]
 pub struct Divider {
     pub count: u32,
 }
 
-pub fn is_test_pattern(dv: u8) -> bool
-    ensures { result ≡ meaning.test_pattern dv }
-{
-    (3 <= dv) & (dv <= 5)
-}
-
-#[tactic(auto, unfolding(crate::specs::Divider::fresh))]
-pub fn fresh() -> Divider
-    ensures { result ≡ meaning.fresh }
-{
-    Divider { count: HALF }
-}
-
-pub fn is_running(dv: u8) -> bool
-    ensures { result ≡ meaning.running dv }
-{
-    dv < 3
-}
-
-#[tactic(auto, using(cases::proofs::Choice::choices), unfolding(crate::specs::Divider::step_of))]
-pub fn step_of(dv: u8) -> u32
-    ensures { result ≡ meaning.step_of dv }
-{
-    if dv == 0 {
-        return 1;
+impl Divider {
+    /// The divider of a fresh chip, which is held at half the span.
+    #[tactic(auto, unfolding(crate::specs::Divider::fresh))]
+    pub fn fresh() -> Self
+        ensures { result ≡ meaning.fresh }
+    {
+        Divider { count: HALF }
     }
-    if dv == 1 {
-        return 4;
-    }
-    if dv == 2 {
-        return 128;
-    }
-    0
-}
 
-// The remainder comes first so that no count makes the sum wrap.
-#[tactic(auto, using(crate::proofs::Laws::Base::running_is_base, crate::proofs::MovedLaws::fits, crate::proofs::MovedLaws::runs, crate::proofs::MovedLaws::stays), unfolding(crate::specs::Divider::moved))]
-pub fn moved(dv: u8, d: Divider) -> Divider
-    ensures { result ≡ meaning.moved dv d }
-{
-    if is_running(dv) {
-        let step = step_of(dv);
-        return Divider {
-            count: (d.count % SPAN + step) % SPAN,
+    /// One tick: the count moves by the step of the base, around the span. Where no base runs, it stays.
+    #[tactic(auto, using(crate::proofs::Laws::Base::moved_from_remainder), unfolding(crate::specs::Divider::moved))]
+    pub fn tick(&mut self, base: Option<Base>)
+        ensures { self.new ≡ meaning.moved base self.old }
+    {
+        if let Some(base) = base {
+            // The remainder comes first, so that no count makes the sum wrap.
+            self.count = (self.count % SPAN + base.step()) % SPAN;
+        }
+    }
+
+    /// The divider after a change of the DV bits: a running base starts on a multiple of its step, with the low 0, 2 or 7 bits of the count cleared;
+    /// any other holds the count at half the span.
+    #[tactic(auto, unfolding(crate::specs::Divider::based))]
+    pub fn start(&mut self, base: Option<Base>)
+        ensures { self.new ≡ meaning.based base self.old }
+    {
+        self.count = match base {
+            None => HALF,
+            Some(base) => self.count - base.past_step(self.count),
         };
     }
-    d
-}
 
-// How far a count is past a multiple of the step of a base that runs. Each divisor is a number, so that none is divided by at run time.
-#[tactic(auto, unfolding(crate::specs::Divider::step_of))]
-fn past_step(dv: u8, count: u32) -> u32
-    requires { dv < 3 }
-    ensures { (result ≡ count % meaning.step_of dv) × (result ≤ count) }
-{
-    if dv == 0 {
-        return 0;
+    /// Whether the tap that a rate selects has just risen, which the count's trailing zero bits tell. Rate 0 selects none.
+    #[tactic(auto, unfolding(crate::specs::Divider::rose))]
+    pub fn has_risen(self, base: Option<Base>, rate: u8) -> bool
+        ensures { result ≡ meaning.rose base rate self }
+    {
+        rate != 0 && self.count.trailing_zeros() == tap_of(base, rate)
     }
-    if dv == 1 {
-        return count % 4;
+
+    /// The level of the tap that a rate selects: the square wave before SQWE has its say. Rate 0 selects none.
+    #[tactic(auto, using(crate::proofs::WaveLaws::above), unfolding(crate::specs::Divider::wave))]
+    pub fn wave(self, base: Option<Base>, rate: u8) -> bool
+        ensures { result ≡ meaning.wave base rate self }
+    {
+        let tap = tap_of(base, rate);
+        // No rate of the chip comes so far, but a shift by more than 31 is not allowed.
+        if tap > 31 {
+            return false;
+        }
+        rate != 0 && bit_at(self.count, tap) == 1
     }
-    count % 128
-}
 
-#[tactic(auto, unfolding(crate::specs::Divider::based))]
-pub fn based(dv: u8, d: Divider) -> Divider
-    ensures { result ≡ meaning.based dv d }
-{
-    if is_running(dv) {
-        let past = past_step(dv, d.count);
-        return Divider {
-            count: d.count - past,
-        };
+    /// Whether the count is 0, at which an update may become pending.
+    #[tactic(auto, unfolding(crate::specs::Divider::at_zero))]
+    pub fn is_at_zero(self) -> bool
+        ensures { result ≡ meaning.at_zero self }
+    {
+        self.count == 0
     }
-    Divider { count: HALF }
-}
 
-// A step of 128 never moves bit 6; the chip lets the two fastest rates act as slower ones there.
-#[tactic(auto, using(cases::proofs::Choice::choices), unfolding(crate::specs::Divider::acts_as))]
-fn acts_as(dv: u8, rate: u8) -> u32
-    ensures { result ≡ meaning.acts_as dv rate }
-{
-    if (dv == 2) & (1 <= rate) & (rate <= 2) {
-        return rate as u32 + 7;
+    /// Whether the count is in the closed window: from 1,024 on and below E.
+    #[tactic(auto, unfolding(crate::specs::Divider::in_window))]
+    pub fn is_in_window(self, base: Option<Base>) -> bool
+        ensures { result ≡ meaning.in_window base self }
+    {
+        (WINDOW..end_of(base)).contains(&self.count)
     }
-    rate as u32
-}
 
-#[tactic(auto, using(crate::proofs::Laws::Tap::acts_as_at_most_7_more), unfolding(crate::specs::Divider::tap_of))]
-pub fn tap_of(dv: u8, rate: u8) -> u32
-    ensures { result ≡ meaning.tap_of dv rate }
-{
-    5 + acts_as(dv, rate)
-}
-
-#[tactic(auto, unfolding(crate::specs::Divider::rose))]
-pub fn rose(dv: u8, rate: u8, d: Divider) -> bool
-    ensures { result ≡ meaning.rose dv rate d }
-{
-    let tap = tap_of(dv, rate);
-    let count = d.count;
-    (rate != 0) & (u32::trailing_zeros(count) == tap)
-}
-
-// Bit `k` of the count.
-fn bit_at(count: u32, k: u32) -> u32
-    requires { k < 32 }
-    ensures { result ≡ count / 2 ^ k % 2 }
-{
-    (count >> k) % 2
-}
-
-#[tactic(auto, using(crate::proofs::WaveLaws::above), unfolding(crate::specs::Divider::wave))]
-pub fn wave(dv: u8, rate: u8, d: Divider) -> bool
-    ensures { result ≡ meaning.wave dv rate d }
-{
-    let tap = tap_of(dv, rate);
-    // No rate of the chip comes so far, but a shift by more than 31 is not allowed.
-    if 31 < tap {
-        return false;
+    /// Whether the count is E.
+    #[tactic(auto, unfolding(crate::specs::Divider::at_end))]
+    pub fn is_at_end(self, base: Option<Base>) -> bool
+        ensures { result ≡ meaning.at_end base self }
+    {
+        self.count == end_of(base)
     }
-    let bit = bit_at(d.count, tap);
-    (rate != 0) & (bit == 1)
-}
 
-#[tactic(auto, unfolding(crate::specs::Divider::at_zero))]
-pub fn at_zero(d: Divider) -> bool
-    ensures { result ≡ meaning.at_zero d }
-{
-    d.count == 0
-}
-
-#[tactic(auto, using(cases::proofs::Choice::choices), unfolding(crate::specs::Divider::end_of))]
-pub fn end_of(dv: u8) -> u32
-    ensures { result ≡ meaning.end_of dv }
-{
-    if dv == 2 {
-        return 9344;
+    /// Whether the count is below E, as a pending update needs it.
+    #[tactic(auto, unfolding(crate::specs::Divider::before_end))]
+    pub fn is_before_end(self, base: Option<Base>) -> bool
+        ensures { result ≡ meaning.before_end base self }
+    {
+        self.count < end_of(base)
     }
-    2064
+
+    /// Whether the count is one that the base can have: below the span and a multiple of its step, or half the span where no base runs.
+    #[tactic(auto, unfolding(crate::specs::Divider::keeps_count))]
+    pub fn keeps_count(self, base: Option<Base>) -> bool
+        ensures { result ≡ meaning.keeps_count base self }
+    {
+        match base {
+            None => self.count == HALF,
+            Some(base) => self.count < SPAN && base.past_step(self.count) == 0,
+        }
+    }
 }
 
-#[tactic(auto, unfolding(crate::specs::Divider::in_window))]
-pub fn in_window(dv: u8, d: Divider) -> bool
-    ensures { result ≡ meaning.in_window dv d }
-{
-    let end = end_of(dv);
-    (1024 <= d.count) & (d.count < end)
-}
-
-#[tactic(auto, unfolding(crate::specs::Divider::at_end))]
-pub fn at_end(dv: u8, d: Divider) -> bool
-    ensures { result ≡ meaning.at_end dv d }
-{
-    let end = end_of(dv);
-    d.count == end
-}
-
-#[tactic(auto, unfolding(crate::specs::Divider::count_of))]
-pub fn count_of(d: Divider) -> u32
-    ensures { result ≡ meaning.count_of d }
-{
-    d.count
-}
-
+/// The divider that a stored count gives.
 #[tactic(auto, unfolding(crate::specs::Divider::of_count))]
-pub fn of_count(count: u32) -> Divider
-    ensures { result ≡ meaning.of_count count }
-{
-    Divider { count: count }
-}
+impl From<u32> for Divider {
+    ghost use Rattle.divider.specs.Divider as meaning;
 
-#[tactic(auto, unfolding(crate::specs::Divider::keeps_count))]
-pub fn keeps_count(dv: u8, d: Divider) -> bool
-    ensures { result ≡ meaning.keeps_count dv d }
-{
-    if is_running(dv) {
-        let past = past_step(dv, d.count);
-        return (d.count < SPAN) & (past == 0);
+    ghost from_gives = { λ count divider. divider ≡ meaning.of_count count };
+
+    fn from(count: u32) -> Self {
+        Divider { count }
     }
-    d.count == HALF
 }
 
-#[tactic(auto, unfolding(crate::specs::Divider::before_end))]
-pub fn before_end(dv: u8, d: Divider) -> bool
-    ensures { result ≡ meaning.before_end dv d }
-{
-    let end = end_of(dv);
-    d.count < end
+/// The count as it is stored.
+#[tactic(auto, unfolding(crate::specs::Divider::count_of))]
+impl From<Divider> for u32 {
+    ghost use Rattle.divider.specs.Divider as meaning;
+
+    ghost from_gives = { λ divider count. count ≡ meaning.count_of divider };
+
+    fn from(divider: Divider) -> u32 {
+        divider.count
+    }
 }

@@ -1,5 +1,5 @@
--- The numbers of the refusals and of answers, and the answer of a call that may be refused.
-use Rattle.std.specs.Prelude.{ℕ, Option, Some, None, Result, Ok, Err}
+-- The numbers of the refusals and of answers.
+use Rattle.std.specs.Prelude.{ℕ, Result, Ok, Err}
 use Rattle.refusals.specs.declared.Refusal.{Refusal}
 use Rattle.refusals.specs.declared.Refusal.TheVariants.{Length, Address, Reset, Window, ReadOnly, TestPattern, Ticks, Rules, Time, Kind}
 
@@ -21,7 +21,7 @@ abbrev pub answer_number : {A : Type 0} → Result A Refusal → ℕ
 answer_number (Ok given) = 0
 answer_number (Err why) = number_of why
 
--- Calls and their refusals: what a call answers, unless there is a reason to refuse it.
-abbrev pub unless : {A : Type 0} → Option Refusal → A → Result A Refusal
-unless None given = Ok given
-unless (Some why) given = Err why
+-- Calls and their refusals: where the first asks nothing, the second decides.
+abbrev pub then_ask : {A B : Type 0} → Result A Refusal → Result B Refusal → Result B Refusal
+then_ask (Ok given) next = next
+then_ask (Err why) next = Err why

@@ -1,9 +1,15 @@
 -- The bits of registers A and B by their names.
-use Rattle.std.specs.Prelude.{Bool, ℕ, ◌/◌, ◌%◌, eqb}
+use Rattle.std.specs.Prelude.{Bool, ℕ, ◌/◌, ◌%◌, eqb, Option}
+use Rattle.divider.specs.declared.Base.{Base}
+use Rattle.divider.specs.Divider.{selected}
 
 -- Divider and ticks: DV2 to DV0 are bits 6 to 4 of A.
 abbrev pub dv_of : ℕ → ℕ
 dv_of a = a / 16 % 8
+
+-- Divider and ticks: the base that they select, if the divider runs with them.
+abbrev pub base_of : ℕ → Option Base
+base_of a = selected (dv_of a)
 
 -- Divider and ticks: the rate is in bits 3 to 0 of A.
 abbrev pub rate_of : ℕ → ℕ

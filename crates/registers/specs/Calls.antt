@@ -2,7 +2,7 @@
 use Rattle.std.specs.Prelude.{Bool, false, cond, ◌&&◌, ◌||◌, not, ℕ, ◌+◌, ◌*◌, ◌/◌, ◌%◌, eqb}
 use Rattle.divider.specs.Divider as divider
 use Rattle.registers.specs.declared.Regs.{Regs}
-use Rattle.registers.specs.Bits.{dv_of, set_on}
+use Rattle.registers.specs.Bits.{dv_of, base_of, set_on}
 use Rattle.registers.specs.With.{with_clock, with_alarm, with_a, with_b, with_flags, with_vrt, with_divider, with_pending, with_low}
 
 -- Locations, fresh chip: A is hex 60 and B hex 80, the rest 0; both pins are high and nothing is pending.
@@ -37,7 +37,7 @@ unfoldable pub write_a : Regs → ℕ → Regs
 write_a r value =
     with_pending
     (with_divider (with_a r (value % 128))
-    (cond (eqb (dv_of value) (dv_of r.a)) r.divider (divider.based (dv_of value) r.divider)))
+    (cond (eqb (dv_of value) (dv_of r.a)) r.divider (divider.based (base_of value) r.divider)))
     (cond (eqb (dv_of value) (dv_of r.a)) r.pending false)
 
 -- Locations: SET goes from 0 to 1.

@@ -7,190 +7,40 @@ use Rattle.registers.specs.declared.Regs.{Regs}
 
 -- Locations: other clock bytes.
 abbrev pub with_clock : Regs → Clock → Regs
-with_clock r clock =
-    record {
-      clock = clock;
-      alarm = r.alarm;
-      a = r.a;
-      b = r.b;
-      pf = r.pf;
-      af = r.af;
-      uf = r.uf;
-      vrt = r.vrt;
-      divider = r.divider;
-      pending = r.pending;
-      resetlow = r.resetlow;
-      pslow = r.pslow;
-      used = r.used;
-    }
+with_clock r clock = record r { clock = clock }
 
 -- Locations: other alarm bytes.
 abbrev pub with_alarm : Regs → Alarm → Regs
-with_alarm r alarm =
-    record {
-      clock = r.clock;
-      alarm = alarm;
-      a = r.a;
-      b = r.b;
-      pf = r.pf;
-      af = r.af;
-      uf = r.uf;
-      vrt = r.vrt;
-      divider = r.divider;
-      pending = r.pending;
-      resetlow = r.resetlow;
-      pslow = r.pslow;
-      used = r.used;
-    }
+with_alarm r alarm = record r { alarm = alarm }
 
 -- Locations: other DV and rate bits.
 abbrev pub with_a : Regs → ℕ → Regs
-with_a r a =
-    record {
-      clock = r.clock;
-      alarm = r.alarm;
-      a = a;
-      b = r.b;
-      pf = r.pf;
-      af = r.af;
-      uf = r.uf;
-      vrt = r.vrt;
-      divider = r.divider;
-      pending = r.pending;
-      resetlow = r.resetlow;
-      pslow = r.pslow;
-      used = r.used;
-    }
+with_a r a = record r { a = a }
 
 -- Locations: another register B.
 abbrev pub with_b : Regs → ℕ → Regs
-with_b r b =
-    record {
-      clock = r.clock;
-      alarm = r.alarm;
-      a = r.a;
-      b = b;
-      pf = r.pf;
-      af = r.af;
-      uf = r.uf;
-      vrt = r.vrt;
-      divider = r.divider;
-      pending = r.pending;
-      resetlow = r.resetlow;
-      pslow = r.pslow;
-      used = r.used;
-    }
+with_b r b = record r { b = b }
 
 -- Locations: other flags PF, AF and UF.
 abbrev pub with_flags : Regs → Bool → Bool → Bool → Regs
-with_flags r pf af uf =
-    record {
-      clock = r.clock;
-      alarm = r.alarm;
-      a = r.a;
-      b = r.b;
-      pf = pf;
-      af = af;
-      uf = uf;
-      vrt = r.vrt;
-      divider = r.divider;
-      pending = r.pending;
-      resetlow = r.resetlow;
-      pslow = r.pslow;
-      used = r.used;
-    }
+with_flags r pf af uf = record r { pf = pf; af = af; uf = uf }
 
 -- Locations: another VRT.
 abbrev pub with_vrt : Regs → Bool → Regs
-with_vrt r vrt =
-    record {
-      clock = r.clock;
-      alarm = r.alarm;
-      a = r.a;
-      b = r.b;
-      pf = r.pf;
-      af = r.af;
-      uf = r.uf;
-      vrt = vrt;
-      divider = r.divider;
-      pending = r.pending;
-      resetlow = r.resetlow;
-      pslow = r.pslow;
-      used = r.used;
-    }
+with_vrt r vrt = record r { vrt = vrt }
 
 -- Divider and ticks: another count.
 abbrev pub with_divider : Regs → Divider → Regs
-with_divider r divider =
-    record {
-      clock = r.clock;
-      alarm = r.alarm;
-      a = r.a;
-      b = r.b;
-      pf = r.pf;
-      af = r.af;
-      uf = r.uf;
-      vrt = r.vrt;
-      divider = divider;
-      pending = r.pending;
-      resetlow = r.resetlow;
-      pslow = r.pslow;
-      used = r.used;
-    }
+with_divider r divider = record r { divider = divider }
 
 -- Divider and ticks: an update pending or not.
 abbrev pub with_pending : Regs → Bool → Regs
-with_pending r pending =
-    record {
-      clock = r.clock;
-      alarm = r.alarm;
-      a = r.a;
-      b = r.b;
-      pf = r.pf;
-      af = r.af;
-      uf = r.uf;
-      vrt = r.vrt;
-      divider = r.divider;
-      pending = pending;
-      resetlow = r.resetlow;
-      pslow = r.pslow;
-      used = r.used;
-    }
+with_pending r pending = record r { pending = pending }
 
 -- Locations: RESET low or not, and PS.
 abbrev pub with_low : Regs → Bool → Bool → Regs
-with_low r resetlow pslow =
-    record {
-      clock = r.clock;
-      alarm = r.alarm;
-      a = r.a;
-      b = r.b;
-      pf = r.pf;
-      af = r.af;
-      uf = r.uf;
-      vrt = r.vrt;
-      divider = r.divider;
-      pending = r.pending;
-      resetlow = resetlow;
-      pslow = pslow;
-      used = r.used;
-    }
+with_low r resetlow pslow = record r { resetlow = resetlow; pslow = pslow }
 
 -- Advancing by one second, DSE: the repeat used or not.
 abbrev pub with_used : Regs → Bool → Regs
-with_used r used =
-    record {
-      clock = r.clock;
-      alarm = r.alarm;
-      a = r.a;
-      b = r.b;
-      pf = r.pf;
-      af = r.af;
-      uf = r.uf;
-      vrt = r.vrt;
-      divider = r.divider;
-      pending = r.pending;
-      resetlow = r.resetlow;
-      pslow = r.pslow;
-      used = used;
-    }
+with_used r used = record r { used = used }

@@ -1,328 +1,316 @@
-// The registers by value: what stands at locations 0 to 13, who may read or write them when, and the two lines.
+//! The registers: what stands at locations 0 to 13, who may read or write them when, and the two lines.
 #![tactic(auto)]
 
-ghost use Rattle.std.specs.Prelude.{◌≡◌, cond};
-ghost use Rattle.registers.specs.Bits.{dv_of, rate_of, set_on, pie_on, aie_on, uie_on, sqwe_on, dse_on};
+ghost use Rattle.std.specs.Prelude.{◌≡◌, ◌*◌, cond, Ok, Err};
+ghost use Rattle.registers.specs.Bits.{dv_of, base_of, rate_of, set_on, pie_on, aie_on, uie_on, sqwe_on, dse_on};
 ghost use Rattle.registers.specs.Lines.{irqf, sqw};
 ghost use Rattle.registers.specs.Locations.{register_a, register_c, register_d, register_bytes};
 ghost use Rattle.registers.specs.Access.{closed, access, write_access};
-ghost use Rattle.registers.specs.Calls.{fresh, after_read, write_a, write_b, write_plain, written, with_pins};
+ghost use Rattle.registers.specs.Calls.{fresh, after_read, write_a, set_rises, write_b, write_plain, written, with_pins};
 
 use calendar::{Alarm, Clock};
-use divider::Divider;
+use divider::{Base, Divider};
 use refusals::Refusal;
 
-// All of the chip but its user RAM. Register A is kept without UIP, and C and D as their bits, so that UIP and IRQF are what
-// their rules say at every moment.
-#[derive(Clone, Copy)]
+/// All of the chip but its user RAM. Register A is kept without UIP, and C and D as their bits, so that UIP and IRQF are what their rules say at every
+/// moment.
+#[derive(Clone, Copy, Debug, PartialEq, Eq)]
 pub struct Regs {
     pub clock: Clock,
     pub alarm: Alarm,
-    // DV and rate bits of register A.
+    /// DV and rate bits of register A.
     pub a: u8,
+    /// Register B.
     pub b: u8,
     pub pf: bool,
     pub af: bool,
     pub uf: bool,
     pub vrt: bool,
     pub divider: Divider,
-    // An update is pending.
+    /// An update is pending, which UIP shows.
     pub pending: bool,
-    // The two pins.
+    /// The pin RESET is low.
     pub resetlow: bool,
+    /// The pin PS is low.
     pub pslow: bool,
-    // This Sunday's repeated hour has been used.
+    /// This Sunday's repeated hour has been used.
     pub used: bool,
 }
 
-// Whether a location may be read or written now.
-#[derive(Clone, Copy)]
-pub enum Verdict {
-    Open,
-    Refused(Refusal),
-}
-
-// ---- bits
-
+/// DV2 to DV0, bits 6 to 4 of a register A byte.
 pub fn dv_of(a: u8) -> u8
     ensures { result ≡ dv_of a }
 {
     a / 16 % 8
 }
 
+/// The base that a register A byte selects, if the divider runs with it.
+pub fn base_of(a: u8) -> Option<Base>
+    ensures { result ≡ base_of a }
+{
+    Base::selected(dv_of(a))
+}
+
+/// The rate, bits 3 to 0 of a register A byte.
 pub fn rate_of(a: u8) -> u8
     ensures { result ≡ rate_of a }
 {
     a % 16
 }
 
+/// SET, bit 7 of a register B byte.
 pub fn set_on(b: u8) -> bool
     ensures { result ≡ set_on b }
 {
     b / 128 % 2 == 1
 }
 
-// A bit of a register at its place.
+/// A bit of a register at its place: the place where it is on, else 0.
 fn placed(on: bool, place: u8) -> u8
     ensures { result ≡ cond on place 0 }
 {
-    if on {
-        return place;
+    if on { place } else { 0 }
+}
+
+impl Regs {
+    /// The registers of a fresh chip: A is hex 60 and B hex 80, the rest 0; both pins are high and nothing is pending.
+    #[tactic(auto, unfolding(crate::specs::Calls::fresh))]
+    pub fn fresh() -> Self
+        ensures { result ≡ fresh }
+    {
+        Regs {
+            clock: Clock {
+                seconds: 0,
+                minutes: 0,
+                hours: 0,
+                weekday: 0,
+                date: 0,
+                month: 0,
+                year: 0,
+            },
+            alarm: Alarm {
+                seconds: 0,
+                minutes: 0,
+                hours: 0,
+            },
+            a: 0x60,
+            b: 0x80,
+            pf: false,
+            af: false,
+            uf: false,
+            vrt: false,
+            divider: Divider::fresh(),
+            pending: false,
+            resetlow: false,
+            pslow: false,
+            used: false,
+        }
     }
-    0
-}
 
-// One of two bytes.
-fn chosen(first: bool, x: u8, y: u8) -> u8
-    ensures { result ≡ cond first x y }
-{
-    if first {
-        return x;
+    /// The base on which the divider runs, if it runs.
+    pub fn base(&self) -> Option<Base>
+        ensures { result ≡ base_of self.now.a }
+    {
+        base_of(self.a)
     }
-    y
-}
 
-// ---- the lines
+    // ---- the lines
 
-// Whether the interrupt line is asserted.
-#[tactic(auto, unfolding(crate::specs::Lines::irqf))]
-pub fn irqf(regs: Regs) -> bool
-    ensures { result ≡ irqf regs }
-{
-    let b = regs.b;
-    ((b / 64 % 2 == 1) & regs.pf) | (((b / 32 % 2 == 1) & regs.af) | ((b / 16 % 2 == 1) & regs.uf))
-}
-
-// Whether the square wave is high.
-#[tactic(auto, unfolding(crate::specs::Lines::sqw))]
-pub fn sqw(regs: Regs) -> bool
-    ensures { result ≡ sqw regs }
-{
-    let wave = divider::wave(dv_of(regs.a), rate_of(regs.a), regs.divider);
-    (regs.b / 8 % 2 == 1) & wave
-}
-
-// ---- the locations
-
-#[tactic(auto, using(crate::proofs::Laws::Bits::placed_at_most))]
-fn register_a(regs: Regs) -> u8
-    ensures { result ≡ register_a regs }
-{
-    placed(regs.pending, 128) + regs.a % 128
-}
-
-#[tactic(auto, using(crate::proofs::Laws::Bits::placed_at_most))]
-fn register_c(regs: Regs) -> u8
-    ensures { result ≡ register_c regs }
-{
-    let q = placed(irqf(regs), 128);
-    let p = placed(regs.pf, 64);
-    let a = placed(regs.af, 32);
-    let u = placed(regs.uf, 16);
-    q + (p + (a + u))
-}
-
-// The bytes at locations 0 to 13.
-#[tactic(auto, unfolding(crate::specs::Locations::register_bytes))]
-pub fn register_bytes(regs: Regs) -> [u8; 14]
-    ensures { result ≡ register_bytes regs }
-{
-    let t = regs.clock;
-    let m = regs.alarm;
-    let a = register_a(regs);
-    let c = register_c(regs);
-    let d = placed(regs.vrt, 128);
-    [
-        t.seconds, m.seconds, t.minutes, m.minutes, t.hours, m.hours, t.weekday, t.date, t.month,
-        t.year, a, regs.b, c, d,
-    ]
-}
-
-// ---- access
-
-// Whether an update is in its closed window.
-fn closed(regs: Regs) -> bool
-    ensures { result ≡ closed regs }
-{
-    let window = divider::in_window(dv_of(regs.a), regs.divider);
-    regs.pending & window
-}
-
-// What a read and a write both ask.
-#[tactic(auto, unfolding(crate::specs::Access::access))]
-pub fn access(regs: Regs, address: u32) -> Verdict
-    ensures { result ≡ access regs address }
-{
-    if 63 < address {
-        return Verdict::Refused(Refusal::Address);
+    /// IRQF, and with it the interrupt line: asserted where a flag and its enable are both 1.
+    #[tactic(auto, unfolding(crate::specs::Lines::irqf))]
+    pub fn irqf(&self) -> bool
+        ensures { result ≡ irqf self.now }
+    {
+        (self.b / 64 % 2 == 1 && self.pf)
+            || ((self.b / 32 % 2 == 1 && self.af) || (self.b / 16 % 2 == 1 && self.uf))
     }
-    if regs.resetlow {
-        return Verdict::Refused(Refusal::Reset);
-    }
-    let shut = closed(regs);
-    if (address <= 9) & shut {
-        return Verdict::Refused(Refusal::Window);
-    }
-    Verdict::Open
-}
 
-// What a write asks.
-#[tactic(auto, unfolding(crate::specs::Access::write_access))]
-pub fn write_access(regs: Regs, address: u32, value: u8) -> Verdict
-    ensures { result ≡ write_access regs address value }
-{
-    let reach = access(regs, address);
-    let Verdict::Open = reach else {
-        return reach;
-    };
-    if (address == 12) | (address == 13) {
-        return Verdict::Refused(Refusal::ReadOnly);
+    /// Whether the square wave is high: with SQWE 1, where the bit of the count that the rate selects is 1.
+    #[tactic(auto, unfolding(crate::specs::Lines::sqw))]
+    pub fn sqw(&self) -> bool
+        ensures { result ≡ sqw self.now }
+    {
+        self.b / 8 % 2 == 1 && self.divider.wave(self.base(), rate_of(self.a))
     }
-    let pattern = divider::is_test_pattern(dv_of(value));
-    if (address == 10) & pattern {
-        return Verdict::Refused(Refusal::TestPattern);
+
+    // ---- the locations
+
+    /// Register A as it is read, with UIP in bit 7.
+    #[tactic(auto, using(crate::proofs::Laws::Bits::placed_at_most))]
+    fn register_a(&self) -> u8
+        ensures { result ≡ register_a self.now }
+    {
+        placed(self.pending, 128) + self.a % 128
     }
-    Verdict::Open
-}
 
-// ---- what the calls leave
-
-#[tactic(auto, unfolding(crate::specs::Calls::fresh))]
-pub fn fresh() -> Regs
-    ensures { result ≡ fresh }
-{
-    Regs {
-        clock: Clock {
-            seconds: 0,
-            minutes: 0,
-            hours: 0,
-            weekday: 0,
-            date: 0,
-            month: 0,
-            year: 0,
-        },
-        alarm: Alarm {
-            seconds: 0,
-            minutes: 0,
-            hours: 0,
-        },
-        a: 96,
-        b: 128,
-        pf: false,
-        af: false,
-        uf: false,
-        vrt: false,
-        divider: divider::fresh(),
-        pending: false,
-        resetlow: false,
-        pslow: false,
-        used: false,
+    /// Register C: IRQF, PF, AF and UF, from bit 7 down.
+    #[tactic(auto, using(crate::proofs::Laws::Bits::placed_at_most))]
+    fn register_c(&self) -> u8
+        ensures { result ≡ register_c self.now }
+    {
+        let flags = placed(self.pf, 64) + (placed(self.af, 32) + placed(self.uf, 16));
+        placed(self.irqf(), 128) + flags
     }
-}
 
-// Reading C clears its flags, and reading D sets VRT where PS is high.
-#[tactic(auto, unfolding(crate::specs::Calls::after_read))]
-pub fn after_read(regs: Regs, address: u32) -> Regs
-    ensures { result ≡ after_read regs address }
-{
-    let mut next = regs;
-    let kept = address != 12;
-    next.pf = regs.pf & kept;
-    next.af = regs.af & kept;
-    next.uf = regs.uf & kept;
-    next.vrt = regs.vrt | ((address == 13) & !regs.pslow);
-    next
-}
-
-// A write to A. Other DV bits drop a pending update and rebase the count.
-#[tactic(auto, unfolding(crate::specs::Calls::write_a))]
-fn write_a(regs: Regs, value: u8) -> Regs
-    ensures { result ≡ write_a regs value }
-{
-    let mut next = regs;
-    let dv = dv_of(value);
-    let old = dv_of(regs.a);
-    next.a = value % 128;
-    if dv == old {
-        return next;
+    /// The bytes at locations 0 to 13: clock and alarm in turns, then A to D.
+    #[tactic(auto, unfolding(crate::specs::Locations::register_bytes))]
+    pub fn register_bytes(&self) -> [u8; 14]
+        ensures { result ≡ register_bytes self.now }
+    {
+        let clock = self.clock;
+        let alarm = self.alarm;
+        [
+            clock.seconds,
+            alarm.seconds,
+            clock.minutes,
+            alarm.minutes,
+            clock.hours,
+            alarm.hours,
+            clock.weekday,
+            clock.date,
+            clock.month,
+            clock.year,
+            self.register_a(),
+            self.b,
+            self.register_c(),
+            placed(self.vrt, 128),
+        ]
     }
-    next.pending = false;
-    let d = divider::based(dv, regs.divider);
-    next.divider = d;
-    next
-}
 
-// A write to B. SET going up drops a pending update and clears UIE.
-#[tactic(auto, unfolding(crate::specs::Calls::write_b))]
-fn write_b(regs: Regs, value: u8) -> Regs
-    ensures { result ≡ write_b regs value }
-{
-    let mut next = regs;
-    let was = set_on(regs.b);
-    let will = set_on(value);
-    if will & !was {
-        next.pending = false;
-        next.b = value / 32 * 32 + value % 16;
-        return next;
+    // ---- access
+
+    /// Whether an update is in its closed window.
+    fn is_closed(&self) -> bool
+        ensures { result ≡ closed self.now }
+    {
+        self.pending && self.divider.is_in_window(self.base())
     }
-    next.b = value;
-    next
-}
 
-// A write to a clock or alarm location; any other address leaves all as it is.
-#[tactic(auto, unfolding(crate::specs::Calls::write_plain))]
-fn write_plain(regs: Regs, address: u32, value: u8) -> Regs
-    ensures { result ≡ write_plain regs address value }
-{
-    let t = regs.clock;
-    let m = regs.alarm;
-    let mut next = regs;
-    let clock = Clock {
-        seconds: chosen(address == 0, value % 128, t.seconds),
-        minutes: chosen(address == 2, value, t.minutes),
-        hours: chosen(address == 4, value, t.hours),
-        weekday: chosen(address == 6, value, t.weekday),
-        date: chosen(address == 7, value, t.date),
-        month: chosen(address == 8, value, t.month),
-        year: chosen(address == 9, value, t.year),
-    };
-    let alarm = Alarm {
-        seconds: chosen(address == 1, value, m.seconds),
-        minutes: chosen(address == 3, value, m.minutes),
-        hours: chosen(address == 5, value, m.hours),
-    };
-    next.clock = clock;
-    next.alarm = alarm;
-    next
-}
-
-// A write to any location; user RAM is not here, and so stays.
-#[tactic(auto, unfolding(crate::specs::Calls::written))]
-pub fn written(regs: Regs, address: u32, value: u8) -> Regs
-    ensures { result ≡ written regs address value }
-{
-    if address == 10 {
-        return write_a(regs, value);
+    /// What a read and a write both ask: refused with `Address` above 63, with `Reset` while RESET is low, and with `Window` at 0 to 9 in the closed
+    /// window, the first of these that applies.
+    #[tactic(auto, unfolding(crate::specs::Access::access))]
+    pub fn access(&self, address: u32) -> Result<(), Refusal>
+        ensures { result ≡ access self.now address }
+    {
+        if address > 63 {
+            return Err(Refusal::Address);
+        }
+        if self.resetlow {
+            return Err(Refusal::Reset);
+        }
+        if address <= 9 && self.is_closed() {
+            return Err(Refusal::Window);
+        }
+        Ok(())
     }
-    if address == 11 {
-        return write_b(regs, value);
-    }
-    write_plain(regs, address, value)
-}
 
-// The pins at new levels.
-#[tactic(auto, unfolding(crate::specs::Calls::with_pins))]
-pub fn with_pins(regs: Regs, reset: bool, ps: bool) -> Regs
-    ensures { result ≡ with_pins regs reset ps }
-{
-    let mut next = regs;
-    let b = regs.b;
-    next.b = chosen(reset, b, b / 128 * 128 + b % 8);
-    next.pf = regs.pf & reset;
-    next.af = regs.af & reset;
-    next.uf = regs.uf & reset;
-    next.vrt = regs.vrt & ps;
-    next.resetlow = !reset;
-    next.pslow = !ps;
-    next
+    /// What a write asks: what a read asks; then it is refused with `ReadOnly` at 12 and 13, and with `TestPattern` at 10 with divider bits 011, 100 or 101.
+    #[tactic(auto, unfolding(crate::specs::Access::write_access))]
+    pub fn write_access(&self, address: u32, value: u8) -> Result<(), Refusal>
+        ensures { result ≡ write_access self.now address value }
+    {
+        self.access(address)?;
+        if address == 12 || address == 13 {
+            return Err(Refusal::ReadOnly);
+        }
+        if address == 10 && divider::is_test_pattern(dv_of(value)) {
+            return Err(Refusal::TestPattern);
+        }
+        Ok(())
+    }
+
+    // ---- what the calls leave
+
+    /// The effect of an accepted read: one of C clears its flags, one of D sets VRT where PS is high, any other has none.
+    #[tactic(auto, unfolding(crate::specs::Calls::after_read))]
+    pub fn after_read(&mut self, address: u32)
+        ensures { self.new ≡ after_read self.old address }
+    {
+        let kept = address != 12;
+        self.pf &= kept;
+        self.af &= kept;
+        self.uf &= kept;
+        self.vrt |= (address == 13) & !self.pslow;
+    }
+
+    /// A write to A: other DV bits drop a pending update and put the divider on its new base.
+    #[tactic(auto, unfolding(crate::specs::Calls::write_a))]
+    fn write_a(&mut self, value: u8)
+        ensures { self.new ≡ write_a self.old value }
+    {
+        let is_same = dv_of(value) == dv_of(self.a);
+        self.a = value % 128;
+        self.pending &= is_same;
+        if !is_same {
+            self.divider.start(base_of(value));
+        }
+    }
+
+    /// Whether a register B byte turns SET from 0 to 1.
+    fn set_rises(&self, value: u8) -> bool
+        ensures { result ≡ set_rises self.now value }
+    {
+        set_on(value) && !set_on(self.b)
+    }
+
+    /// A write to B: SET going from 0 to 1 drops a pending update and stores UIE as 0.
+    #[tactic(auto, unfolding(crate::specs::Calls::write_b))]
+    fn write_b(&mut self, value: u8)
+        ensures { self.new ≡ write_b self.old value }
+    {
+        if self.set_rises(value) {
+            self.pending = false;
+            self.b = value / 32 * 32 + value % 16;
+        } else {
+            self.b = value;
+        }
+    }
+
+    /// A write to a clock or alarm location, to location 0 without bit 7; any other address leaves all as it is.
+    #[tactic(auto, unfolding(crate::specs::Calls::write_plain))]
+    fn write_plain(&mut self, address: u32, value: u8)
+        ensures { self.new ≡ write_plain self.old address value }
+    {
+        match address {
+            0 => self.clock.seconds = value % 128,
+            1 => self.alarm.seconds = value,
+            2 => self.clock.minutes = value,
+            3 => self.alarm.minutes = value,
+            4 => self.clock.hours = value,
+            5 => self.alarm.hours = value,
+            6 => self.clock.weekday = value,
+            7 => self.clock.date = value,
+            8 => self.clock.month = value,
+            9 => self.clock.year = value,
+            _ => {}
+        }
+    }
+
+    /// An accepted write to a location; user RAM is not here, and so stays.
+    #[tactic(auto, unfolding(crate::specs::Calls::written))]
+    pub fn write(&mut self, address: u32, value: u8)
+        ensures { self.new ≡ written self.old address value }
+    {
+        match address {
+            10 => self.write_a(value),
+            11 => self.write_b(value),
+            _ => self.write_plain(address, value),
+        }
+    }
+
+    /// The pins at new levels; true is high. RESET low takes bits 6 to 3 out of B and clears every flag; PS low clears VRT.
+    #[tactic(auto, unfolding(crate::specs::Calls::with_pins))]
+    pub fn set_pins(&mut self, reset: bool, ps: bool)
+        ensures { self.new ≡ with_pins self.old reset ps }
+    {
+        if !reset {
+            self.b = self.b / 128 * 128 + self.b % 8;
+        }
+        self.pf &= reset;
+        self.af &= reset;
+        self.uf &= reset;
+        self.vrt &= ps;
+        self.resetlow = !reset;
+        self.pslow = !ps;
+    }
 }

@@ -1,29 +1,33 @@
 -- What the three running bases have in common: the step is a power of two that divides the span and E, and no tap lies below it.
 -- Assumes nothing.
 use mathlib.Core.Path.{◌≡◌, refl}
-use mathlib.Core.Bool.{Bool, true, false, cond}
-use Prim.Native.Nat.{ℕ, zero, suc, ◌+◌, ◌*◌, ◌^◌, ◌≤◌, ◌<◌}
+use mathlib.Core.Bool.{Bool, true, false, cond, false≢true}
+use Prim.Native.Nat.{ℕ, zero, suc, ◌+◌, ◌*◌, ◌%◌, ◌^◌, ◌≤◌, ◌<◌}
+use native.Mathlib.Nat.{mod-add-mod}
 use native.Mathlib.Omega.{arith}
 use lib.Dec.{leb}
-use borrow.Author.Tests.{ltb-true, leb-false, le-leb}
+use borrow.Author.Tests.{leb-false, le-leb}
+use Rattle.std.specs.Prelude.{Option, Some, None}
+use Rattle.divider.specs.declared.Base.{Base}
+use Rattle.divider.specs.declared.Base.TheVariants.{Fastest, Middle, Slowest}
 use Rattle.divider.specs.Divider.{span, running, step_of, end_of, tap_of, acts_as}
 
 -- `exponent` is the number of low bits that stay 0; the span and E are given in steps.
-pub record Base (dv : ℕ) : Type 0 where
+pub record OfBase (base : Option Base) : Type 0 where
   pub exponent : ℕ
   pub steps_of_span : ℕ
   pub steps_of_end : ℕ
-  pub runs : running dv ≡ true
-  pub step_is_power : step_of dv ≡ 2 ^ exponent
-  pub step_positive : 0 < step_of dv
-  pub step_at_most_128 : step_of dv ≤ 128
-  pub step_divides_span : steps_of_span * step_of dv ≡ span
-  pub step_divides_end : steps_of_end * step_of dv ≡ end_of dv
-  pub end_positive : 0 < end_of dv
-  pub end_below_span : end_of dv < span
-  pub taps_not_below_step : (rate : ℕ) → 0 < rate → exponent ≤ tap_of dv rate
+  pub runs : running base ≡ true
+  pub step_is_power : step_of base ≡ 2 ^ exponent
+  pub step_positive : 0 < step_of base
+  pub step_at_most_128 : step_of base ≤ 128
+  pub step_divides_span : steps_of_span * step_of base ≡ span
+  pub step_divides_end : steps_of_end * step_of base ≡ end_of base
+  pub end_positive : 0 < end_of base
+  pub end_below_span : end_of base < span
+  pub taps_not_below_step : (rate : ℕ) → 0 < rate → exponent ≤ tap_of base rate
 
-pub fastest_is_base : Base 0
+pub fastest_is_base : OfBase (Some Fastest)
 unfolding step_of end_of tap_of acts_as
 fastest_is_base =
     record {
@@ -41,7 +45,7 @@ fastest_is_base =
       taps_not_below_step = λ rate p. omega arith;
     }
 
-pub middle_is_base : Base 1
+pub middle_is_base : OfBase (Some Middle)
 unfolding step_of end_of tap_of acts_as
 middle_is_base =
     record {
@@ -60,7 +64,7 @@ middle_is_base =
     }
 
 -- without the exception rate 1 would select bit 6, which a step of 128 never moves
-slowest_taps : (rate : ℕ) → 0 < rate → 7 ≤ tap_of 2 rate
+slowest_taps : (rate : ℕ) → 0 < rate → 7 ≤ tap_of (Some Slowest) rate
 unfolding tap_of acts_as
 slowest_taps rate p = rw (le-leb 1 rate p) (go (leb rate 2) refl)
   where
@@ -68,7 +72,7 @@ slowest_taps rate p = rw (le-leb 1 rate p) (go (leb rate 2) refl)
     go true e = omega arith
     go false e = omega (arith, leb-false rate 2 e)
 
-pub slowest_is_base : Base 2
+pub slowest_is_base : OfBase (Some Slowest)
 unfolding step_of end_of tap_of acts_as
 slowest_is_base =
     record {
@@ -86,8 +90,12 @@ slowest_is_base =
       taps_not_below_step = slowest_taps;
     }
 
-pub running_is_base : (dv : ℕ) → running dv ≡ true → Base dv
-running_is_base zero e = fastest_is_base
-running_is_base (suc zero) e = middle_is_base
-running_is_base (suc (suc zero)) e = slowest_is_base
-running_is_base (suc (suc (suc n))) e = absurd (omega (arith, ltb-true (suc (suc (suc n))) 3 e))
+pub running_is_base : (base : Option Base) → running base ≡ true → OfBase base
+running_is_base None e = absurd (false≢true e)
+running_is_base (Some Fastest) e = fastest_is_base
+running_is_base (Some Middle) e = middle_is_base
+running_is_base (Some Slowest) e = slowest_is_base
+
+-- what the proof of a tick uses: a count that is cut down first moves to the same place, and the sum does not wrap
+pub moved_from_remainder : (n s : ℕ) → (n % span + s) % span ≡ (n + s) % span
+moved_from_remainder n s = mod-add-mod n span s

@@ -6,12 +6,14 @@ use Prim.Native.Nat.{ℕ, zero, suc, ◌+◌, ◌-◌, ◌*◌, ◌/◌, ◌%◌
 use native.Mathlib.Omega.{arith}
 use lib.Dec.{leb, ltb, eqb}
 use borrow.Author.Tests.{eqb-true, eqb-false, ne_eqb, leb-true, leb-false, ltb-true, ltb-false, le-leb, lt-leb, lt-ltb, le-ltb}
+use Rattle.std.specs.Prelude.{Option}
+use Rattle.divider.specs.declared.Base.{Base}
 use Rattle.divider.specs.declared.Divider.{Divider}
 use Rattle.divider.specs.Divider.{span, step_of, moved, at_zero, end_of, at_end, before_end, count_of}
 use Rattle.divider.proofs.Laws.Numbers.{multiples_differ_by_a_step}
 use Rattle.cases.proofs.Tests.{eqb_case}
 use Rattle.divider.proofs.Laws.Count.{count_of_moved, at_zero_by_count, at_end_by_count, before_end_by_count}
-use Rattle.divider.proofs.Laws.Base.{Base}
+use Rattle.divider.proofs.Laws.Base.{OfBase}
 use Rattle.divider.proofs.Laws.Keeps.{Kept, moved_keeps, kept_is_multiple}
 
 -- ---- the course of a divider: whether an update is pending, and how many were completed
@@ -22,31 +24,31 @@ pub record Course : Type 0 where
   pub updates : ℕ
 
 -- an update is pending once the count has moved
-abbrev pub waits : ℕ → Course → Bool
-waits dv c = at_zero (moved dv c.divider) || c.pending
+abbrev pub waits : Option Base → Course → Bool
+waits base c = at_zero (moved base c.divider) || c.pending
 
 -- the pending update ends
-abbrev pub ends : ℕ → Course → Bool
-ends dv c = waits dv c && at_end dv (moved dv c.divider)
+abbrev pub ends : Option Base → Course → Bool
+ends base c = waits base c && at_end base (moved base c.divider)
 
-unfoldable pub tick : ℕ → Course → Course
-tick dv c =
+unfoldable pub tick : Option Base → Course → Course
+tick base c =
     record {
-      divider = moved dv c.divider;
-      pending = waits dv c && not (ends dv c);
-      updates = cond (ends dv c) (c.updates + 1) c.updates;
+      divider = moved base c.divider;
+      pending = waits base c && not (ends base c);
+      updates = cond (ends base c) (c.updates + 1) c.updates;
     }
 
-unfoldable pub ticks : ℕ → ℕ → Course → Course
-ticks dv zero c = c
-ticks dv (suc n) c = tick dv (ticks dv n c)
+unfoldable pub ticks : Option Base → ℕ → Course → Course
+ticks base zero c = c
+ticks base (suc n) c = tick base (ticks base n c)
 
 -- Where all steps since the start, with the start itself, sum up to t.
-pub record Reached (dv t : ℕ) (c : Course) : Type 0 where
-  pub kept : Kept dv c.divider
+pub record Reached (base : Option Base) (t : ℕ) (c : Course) : Type 0 where
+  pub kept : Kept base c.divider
   pub count : count_of c.divider ≡ t % span
-  pub pending : c.pending ≡ leb span t && ltb (t % span) (end_of dv)
-  pub updates : c.updates ≡ (t - end_of dv) / span
+  pub pending : c.pending ≡ leb span t && ltb (t % span) (end_of base)
+  pub updates : c.updates ≡ (t - end_of base) / span
 
 -- ---- one tick, in numbers: the count c with the step s, the end e, and whether an update is pending, p
 
@@ -125,8 +127,8 @@ module _ (s e t c u : ℕ) (p : Bool) (f : Fits s e c) (at : c ≡ t % span) (do
 
 -- ---- one tick of a course, and many
 
-fits : (dv : ℕ) (d : Divider) → Base dv → Kept dv d → Fits (step_of dv) (end_of dv) (count_of d)
-fits dv d b k =
+fits : (base : Option Base) (d : Divider) → OfBase base → Kept base d → Fits (step_of base) (end_of base) (count_of d)
+fits base d b k =
     record {
       s_positive = b.step_positive;
       e_positive = b.end_positive;
@@ -142,113 +144,113 @@ fits dv d b k =
     }
   where
     m : ℕ
-    m = count_of d / step_of dv
+    m = count_of d / step_of base
 
-    count : count_of d ≡ m * step_of dv
-    count = kept_is_multiple dv d b.runs k
+    count : count_of d ≡ m * step_of base
+    count = kept_is_multiple base d b.runs k
 
-    end : b.steps_of_end * step_of dv ≡ end_of dv
+    end : b.steps_of_end * step_of base ≡ end_of base
     end = b.step_divides_end
 
-    whole : b.steps_of_span * step_of dv ≡ span
+    whole : b.steps_of_span * step_of base ≡ span
     whole = b.step_divides_span
 
-    apart : (x y : ℕ) → x * step_of dv < y * step_of dv → x * step_of dv + step_of dv ≤ y * step_of dv
-    apart = multiples_differ_by_a_step (step_of dv)
+    apart : (x y : ℕ) → x * step_of base < y * step_of base → x * step_of base + step_of base ≤ y * step_of base
+    apart = multiples_differ_by_a_step (step_of base)
 
 -- a pending update that does not end waits at a count below E, as the record rules ask
-pub pending_stays_before_end : (dv : ℕ) (d : Divider) (p : Bool) → Base dv → Kept dv d → (p ≡ true → before_end dv d ≡ true)
-    → at_zero (moved dv d) || p ≡ true → at_end dv (moved dv d) ≡ false → before_end dv (moved dv d) ≡ true
-pending_stays_before_end dv d p b k h w e =
-    rw (before_end_by_count dv (moved dv d))
-    (go (eqb (count_of (moved dv d)) 0) refl (rw (at_zero_by_count (moved dv d)) at w))
+pub pending_stays_before_end : (base : Option Base) (d : Divider) (p : Bool) → OfBase base → Kept base d → (p ≡ true → before_end base d ≡ true)
+    → at_zero (moved base d) || p ≡ true → at_end base (moved base d) ≡ false → before_end base (moved base d) ≡ true
+pending_stays_before_end base d p b k h w e =
+    rw (before_end_by_count base (moved base d))
+    (go (eqb (count_of (moved base d)) 0) refl (rw (at_zero_by_count (moved base d)) at w))
   where
-    f : Fits (step_of dv) (end_of dv) (count_of d)
-    f = fits dv d b k
+    f : Fits (step_of base) (end_of base) (count_of d)
+    f = fits base d b k
 
-    n : count_of (moved dv d) ≡ (count_of d + step_of dv) % span
-    n = count_of_moved dv d b.runs
+    n : count_of (moved base d) ≡ (count_of d + step_of base) % span
+    n = count_of_moved base d b.runs
 
-    at_end_lem : count_of (moved dv d) ≡ end_of dv → ⊥
-    at_end_lem = eqb-false (count_of (moved dv d)) (end_of dv) (rw (at_end_by_count dv (moved dv d)) at e)
+    at_end_lem : count_of (moved base d) ≡ end_of base → ⊥
+    at_end_lem = eqb-false (count_of (moved base d)) (end_of base) (rw (at_end_by_count base (moved base d)) at e)
 
-    go : (z : Bool) → eqb (count_of (moved dv d)) 0 ≡ z → z || p ≡ true → ltb (count_of (moved dv d)) (end_of dv) ≡ true
-    go true z w = lt-ltb (count_of (moved dv d)) (end_of dv) (omega (arith, eqb-true (count_of (moved dv d)) 0 z, f.e_positive))
+    go : (z : Bool) → eqb (count_of (moved base d)) 0 ≡ z → z || p ≡ true → ltb (count_of (moved base d)) (end_of base) ≡ true
+    go true z w = lt-ltb (count_of (moved base d)) (end_of base) (omega (arith, eqb-true (count_of (moved base d)) 0 z, f.e_positive))
     go false z w =
-        let l = ltb-true (count_of d) (end_of dv) (rw (before_end_by_count dv d) at (h w)) in
+        let l = ltb-true (count_of d) (end_of base) (rw (before_end_by_count base d) at (h w)) in
         let r = f.c_before_e l in
-        lt-ltb (count_of (moved dv d)) (end_of dv) (omega (arith, n, at_end_lem, f.e_room, f.s_positive))
+        lt-ltb (count_of (moved base d)) (end_of base) (omega (arith, n, at_end_lem, f.e_room, f.s_positive))
 
-pub tick_reaches_one_step_more : (dv t : ℕ) (c : Course) → Base dv → Reached dv t c → Reached dv (t + step_of dv) (tick dv c)
+pub tick_reaches_one_step_more : (base : Option Base) (t : ℕ) (c : Course) → OfBase base → Reached base t c → Reached base (t + step_of base) (tick base c)
 unfolding tick
-tick_reaches_one_step_more dv t c b r =
+tick_reaches_one_step_more base t c b r =
     record {
-      kept = moved_keeps dv c.divider r.kept;
+      kept = moved_keeps base c.divider r.kept;
       count = n ∙ now.count;
       pending = rw (zero, end, n) now.pending;
       updates = rw (zero, end, n) now.updates;
     }
   where
-    now : Stepped (end_of dv) (t + step_of dv) ((count_of c.divider + step_of dv) % span) c.updates c.pending
+    now : Stepped (end_of base) (t + step_of base) ((count_of c.divider + step_of base) % span) c.updates c.pending
     now =
-        steps (step_of dv) (end_of dv) t (count_of c.divider) c.updates c.pending
-        (fits dv c.divider b r.kept) r.count r.updates (stage_of (end_of dv) t c.pending r.pending)
+        steps (step_of base) (end_of base) t (count_of c.divider) c.updates c.pending
+        (fits base c.divider b r.kept) r.count r.updates (stage_of (end_of base) t c.pending r.pending)
 
-    n : count_of (moved dv c.divider) ≡ (count_of c.divider + step_of dv) % span
-    n = count_of_moved dv c.divider b.runs
+    n : count_of (moved base c.divider) ≡ (count_of c.divider + step_of base) % span
+    n = count_of_moved base c.divider b.runs
 
-    zero : at_zero (moved dv c.divider) ≡ eqb (count_of (moved dv c.divider)) 0
-    zero = at_zero_by_count (moved dv c.divider)
+    zero : at_zero (moved base c.divider) ≡ eqb (count_of (moved base c.divider)) 0
+    zero = at_zero_by_count (moved base c.divider)
 
-    end : at_end dv (moved dv c.divider) ≡ eqb (count_of (moved dv c.divider)) (end_of dv)
-    end = at_end_by_count dv (moved dv c.divider)
+    end : at_end base (moved base c.divider) ≡ eqb (count_of (moved base c.divider)) (end_of base)
+    end = at_end_by_count base (moved base c.divider)
 
-pub ticks_reach : (dv n t : ℕ) (c : Course) → Base dv → Reached dv t c → Reached dv (t + n * step_of dv) (ticks dv n c)
+pub ticks_reach : (base : Option Base) (n t : ℕ) (c : Course) → OfBase base → Reached base t c → Reached base (t + n * step_of base) (ticks base n c)
 unfolding ticks
-ticks_reach dv zero t c b r = let e : t + 0 * step_of dv ≡ t = omega arith in rw e r
-ticks_reach dv (suc n) t c b r =
-    let e : t + suc n * step_of dv ≡ t + n * step_of dv + step_of dv = omega arith in
-    rw e (tick_reaches_one_step_more dv (t + n * step_of dv) (ticks dv n c) b (ticks_reach dv n t c b r))
+ticks_reach base zero t c b r = let e : t + 0 * step_of base ≡ t = omega arith in rw e r
+ticks_reach base (suc n) t c b r =
+    let e : t + suc n * step_of base ≡ t + n * step_of base + step_of base = omega arith in
+    rw e (tick_reaches_one_step_more base (t + n * step_of base) (ticks base n c) b (ticks_reach base n t c b r))
 
 -- ---- the formula
 
 -- what a start asks: the record rules on count and pending update, and nothing counted yet
-pub record Start (dv : ℕ) (c : Course) : Type 0 where
-  pub kept : Kept dv c.divider
-  pub pending_before_end : c.pending ≡ true → count_of c.divider < end_of dv
+pub record Start (base : Option Base) (c : Course) : Type 0 where
+  pub kept : Kept base c.divider
+  pub pending_before_end : c.pending ≡ true → count_of c.divider < end_of base
   pub none_yet : c.updates ≡ 0
 
 -- a pending update was begun a span before
 abbrev pub start_of : Course → ℕ
 start_of c = cond c.pending (count_of c.divider + span) (count_of c.divider)
 
-pub start_is_reached : (dv : ℕ) (c : Course) → Base dv → Start dv c → Reached dv (start_of c) c
-start_is_reached dv c b h = go c.pending refl
+pub start_is_reached : (base : Option Base) (c : Course) → OfBase base → Start base c → Reached base (start_of c) c
+start_is_reached base c b h = go c.pending refl
   where
     k : count_of c.divider < span
     k = h.kept.below_span
 
-    go : (p : Bool) → c.pending ≡ p → Reached dv (cond p (count_of c.divider + span) (count_of c.divider)) c
+    go : (p : Bool) → c.pending ≡ p → Reached base (cond p (count_of c.divider + span) (count_of c.divider)) c
     go true e =
         let l = h.pending_before_end e in
         let x : leb span (count_of c.divider + span) ≡ true = le-leb span (count_of c.divider + span) (omega arith) in
-        let y : ltb ((count_of c.divider + span) % span) (end_of dv) ≡ true = lt-ltb ((count_of c.divider + span) % span) (end_of dv) (omega arith) in
+        let y : ltb ((count_of c.divider + span) % span) (end_of base) ≡ true = lt-ltb ((count_of c.divider + span) % span) (end_of base) (omega arith) in
         record { kept = h.kept; count = omega arith; pending = rw (x, y) e; updates = omega (arith, h.none_yet, b.end_below_span) }
     go false e =
         let x : leb span (count_of c.divider) ≡ false = lt-leb span (count_of c.divider) k in
         record { kept = h.kept; count = omega arith; pending = rw x e; updates = omega (arith, h.none_yet, b.end_below_span) }
 
-pub tick_formula : (dv n : ℕ) (c : Course) → Base dv → Start dv c → Reached dv (start_of c + n * step_of dv) (ticks dv n c)
-tick_formula dv n c b h = ticks_reach dv n (start_of c) c b (start_is_reached dv c b h)
+pub tick_formula : (base : Option Base) (n : ℕ) (c : Course) → OfBase base → Start base c → Reached base (start_of c + n * step_of base) (ticks base n c)
+tick_formula base n c b h = ticks_reach base n (start_of c) c b (start_is_reached base c b h)
 
 -- Divider and ticks: from a start with nothing pending, the sum begins at the count itself
-pub tick_formula_at_rest : (dv n : ℕ) (c : Course) → Base dv → Start dv c → c.pending ≡ false → Reached dv (count_of c.divider + n * step_of dv) (ticks dv n c)
-tick_formula_at_rest dv n c b h e =
-    subst (λ (x : ℕ). Reached dv (x + n * step_of dv) (ticks dv n c)) (at_rest c.pending e) (tick_formula dv n c b h)
+pub tick_formula_at_rest : (base : Option Base) (n : ℕ) (c : Course) → OfBase base → Start base c → c.pending ≡ false → Reached base (count_of c.divider + n * step_of base) (ticks base n c)
+tick_formula_at_rest base n c b h e =
+    subst (λ (x : ℕ). Reached base (x + n * step_of base) (ticks base n c)) (at_rest c.pending e) (tick_formula base n c b h)
   where
     at_rest : (p : Bool) → p ≡ false → cond p (count_of c.divider + span) (count_of c.divider) ≡ count_of c.divider
     at_rest p e = rw e
 
-pub completed_updates_at_rest : (dv n : ℕ) (c : Course) → Base dv → Start dv c → c.pending ≡ false
-    → (ticks dv n c).updates ≡ (count_of c.divider + n * step_of dv - end_of dv) / span
-completed_updates_at_rest dv n c b h e = (tick_formula_at_rest dv n c b h e).updates
+pub completed_updates_at_rest : (base : Option Base) (n : ℕ) (c : Course) → OfBase base → Start base c → c.pending ≡ false
+    → (ticks base n c).updates ≡ (count_of c.divider + n * step_of base - end_of base) / span
+completed_updates_at_rest base n c b h e = (tick_formula_at_rest base n c b h e).updates
