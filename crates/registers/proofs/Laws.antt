@@ -1,1 +1,3 @@
 pub mod Bits
+pub mod Access
+pub mod Sound

@@ -5,16 +5,16 @@ use Rattle.calendar.specs.declared.Updated.{Updated}
 use Rattle.calendar.specs.Update.{update}
 use Rattle.divider.specs.Divider.{running, moved, rose, at_zero, at_end}
 use Rattle.registers.specs.declared.Regs.{Regs}
-use Rattle.registers.specs.Bits.{dv_of, rate_of, set_on, dse_on}
+use Rattle.registers.specs.Bits.{base_of, rate_of, set_on, dse_on}
 use Rattle.registers.specs.With.{with_clock, with_flags, with_divider, with_pending, with_used}
 
 -- Divider and ticks: the count moves by the step of the base.
 unfoldable pub counted : Regs → Regs
-counted r = with_divider r (moved (dv_of r.a) r.divider)
+counted r = with_divider r (moved (base_of r.a) r.divider)
 
 -- Divider and ticks, PF: set where the selected tap has just risen; but no flag rises while RESET is low.
 unfoldable pub flagged : Regs → Regs
-flagged r = with_flags r (r.pf || (rose (dv_of r.a) (rate_of r.a) r.divider && not r.resetlow)) r.af r.uf
+flagged r = with_flags r (r.pf || (rose (base_of r.a) (rate_of r.a) r.divider && not r.resetlow)) r.af r.uf
 
 -- Divider and ticks: the count reaching 0 with SET 0 makes an update pending.
 unfoldable pub awaiting : Regs → Regs
@@ -38,11 +38,11 @@ updated r =
 
 -- Divider and ticks: a pending update takes place where the count equals E.
 unfoldable pub finished : Regs → Regs
-finished r = cond (r.pending && at_end (dv_of r.a) r.divider) (updated r) r
+finished r = cond (r.pending && at_end (base_of r.a) r.divider) (updated r) r
 
 -- Divider and ticks: a whole tick. Where the divider is held, it does nothing.
 unfoldable pub tick : Regs → Regs
-tick r = cond (running (dv_of r.a)) (finished (awaiting (flagged (counted r)))) r
+tick r = cond (running (base_of r.a)) (finished (awaiting (flagged (counted r)))) r
 
 -- Divider and ticks: n ticks.
 unfoldable pub ticks : ℕ → Regs → Regs

@@ -1,51 +1,64 @@
-// One tick of the registers by value.
+//! One tick of the registers.
 #![tactic(auto)]
 
-ghost use Rattle.std.specs.Prelude.{◌≡◌};
+ghost use Rattle.std.specs.Prelude.{◌≡◌, ◌&&◌, not};
+ghost use Rattle.divider.specs.Divider.{rose, at_zero, at_end};
+ghost use Rattle.registers.specs.Bits.{base_of, rate_of, set_on};
 ghost use Rattle.ticks.specs.Tick.{updated, tick};
 
 use registers::Regs;
 
-// The update itself.
+/// The update itself: the clock goes on, UF is set, and AF where the alarm matches the new time; nothing is pending any more. No flag rises while RESET
+/// is low.
 #[tactic(auto, unfolding(crate::specs::Tick::updated))]
-fn updated(regs: Regs) -> Regs
-    ensures { result ≡ updated regs }
+fn update(regs: &mut Regs)
+    ensures { regs.new ≡ updated regs.old }
 {
-    let mode = fields::mode_of(regs.b);
     let dse = regs.b % 2 == 1;
-    let u = calendar::update(mode, dse, regs.used, regs.alarm, regs.clock);
-    let mut next = regs;
-    let clock = u.clock;
-    next.clock = clock;
-    next.used = u.used;
-    next.uf = regs.uf | !regs.resetlow;
-    next.af = regs.af | (u.matched & !regs.resetlow);
-    next.pending = false;
-    next
+    let mode = fields::mode_of(regs.b);
+    let next = calendar::update(mode, dse, regs.used, regs.alarm, regs.clock);
+    regs.clock = next.clock;
+    regs.used = next.used;
+    regs.uf |= !regs.resetlow;
+    regs.af |= next.matched & !regs.resetlow;
+    regs.pending = false;
 }
 
-// One tick: the count, PF, pending, the update. What has moved is put into the registers at once, since a chain of whole structs by
-// value costs ten times as much.
-#[tactic(auto, unfolding(crate::specs::Tick::counted, crate::specs::Tick::flagged, crate::specs::Tick::awaiting, crate::specs::Tick::finished, crate::specs::Tick::tick))]
-pub fn tick(regs: Regs) -> Regs
-    ensures { result ≡ tick regs }
+/// Whether the tap that the rate selects has just risen.
+fn tap_rises(regs: &Regs) -> bool
+    ensures { result ≡ rose (base_of regs.now.a) (rate_of regs.now.a) regs.now.divider }
 {
-    let dv = registers::dv_of(regs.a);
-    if divider::is_running(dv) {
-        let mut next = regs;
-        let d = divider::moved(dv, regs.divider);
-        next.divider = d;
-        let risen = divider::rose(dv, registers::rate_of(regs.a), d);
-        next.pf = regs.pf | (risen & !regs.resetlow);
-        let zero = divider::at_zero(d);
-        let set = registers::set_on(regs.b);
-        let pending = regs.pending | (zero & !set);
-        next.pending = pending;
-        let end = divider::at_end(dv, d);
-        if pending & end {
-            return updated(next);
-        }
-        return next;
+    let rate = registers::rate_of(regs.a);
+    regs.divider.has_risen(regs.base(), rate)
+}
+
+/// Whether the count has reached 0 with SET 0.
+fn starts_waiting(regs: &Regs) -> bool
+    ensures { result ≡ (at_zero regs.now.divider && not (set_on regs.now.b)) }
+{
+    regs.divider.is_at_zero() && !registers::set_on(regs.b)
+}
+
+/// Whether a pending update takes place now.
+fn is_due(regs: &Regs) -> bool
+    ensures { result ≡ (regs.now.pending && at_end (base_of regs.now.a) regs.now.divider) }
+{
+    regs.pending && regs.divider.is_at_end(regs.base())
+}
+
+/// One tick: the count, PF, pending, the update. Where the divider is held, it does nothing.
+#[tactic(auto, unfolding(crate::specs::Tick::counted, crate::specs::Tick::flagged, crate::specs::Tick::awaiting, crate::specs::Tick::finished, crate::specs::Tick::tick))]
+pub fn tick(regs: &mut Regs)
+    ensures { regs.new ≡ tick regs.old }
+{
+    let base = regs.base();
+    if base.is_none() {
+        return;
     }
-    regs
+    regs.divider.tick(base);
+    regs.pf |= tap_rises(regs) & !regs.resetlow;
+    regs.pending |= starts_waiting(regs);
+    if is_due(regs) {
+        update(regs);
+    }
 }

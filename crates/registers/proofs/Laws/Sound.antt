@@ -6,11 +6,11 @@ use Prim.Native.Nat.{ℕ, ◌+◌, ◌*◌, ◌/◌, ◌%◌, ◌<◌}
 use native.Mathlib.Omega.{arith}
 use lib.Dec.{eqb}
 use Rattle.cases.proofs.Tests.{either, eqb_case, false_is_not_true}
+use Rattle.std.specs.Prelude.{None, Ok}
 use Rattle.divider.specs.Divider as divider
 use Rattle.divider.proofs.Laws.Keeps.{keeps_count_gives_kept, kept_gives_keeps_count, based_keeps, fresh_keeps}
 use Rattle.registers.specs.declared.Regs.{Regs}
-use Rattle.registers.specs.declared.Verdict.TheVariants.{Open}
-use Rattle.registers.specs.Bits.{dv_of, set_on}
+use Rattle.registers.specs.Bits.{dv_of, base_of, set_on}
 use Rattle.registers.specs.Access.{write_access}
 use Rattle.registers.specs.Calls.{fresh, after_read, write_a, set_rises, write_b, write_plain, written, with_pins}
 use Rattle.registers.proofs.Laws.Access.{open_has_reset_high, open_a_has_no_pattern, write_open_is_open}
@@ -19,15 +19,15 @@ pub record Sound (r : Regs) : Type 0 where
   pub seconds : r.clock.seconds < 128
   pub a : r.a < 128
   pub pattern : divider.test_pattern (dv_of r.a) ≡ false
-  pub count : divider.keeps_count (dv_of r.a) r.divider ≡ true
+  pub count : divider.keeps_count (base_of r.a) r.divider ≡ true
   pub vrt : r.pslow ≡ true → r.vrt ≡ false
   pub enables : r.resetlow ≡ true → r.b / 8 % 16 ≡ 0
   pub pf : r.resetlow ≡ true → r.pf ≡ false
   pub af : r.resetlow ≡ true → r.af ≡ false
   pub uf : r.resetlow ≡ true → r.uf ≡ false
   pub set : r.pending ≡ true → set_on r.b ≡ false
-  pub runs : r.pending ≡ true → divider.running (dv_of r.a) ≡ true
-  pub before_the_end : r.pending ≡ true → divider.before_end (dv_of r.a) r.divider ≡ true
+  pub runs : r.pending ≡ true → divider.running (base_of r.a) ≡ true
+  pub before_the_end : r.pending ≡ true → divider.before_end (base_of r.a) r.divider ≡ true
 
 -- ---- Bools
 
@@ -44,7 +44,7 @@ fresh_is_sound =
       seconds = omega arith;
       a = omega arith;
       pattern = refl;
-      count = kept_gives_keeps_count 6 divider.fresh (fresh_keeps 6);
+      count = kept_gives_keeps_count None divider.fresh (fresh_keeps None);
       vrt = λ e. refl;
       enables = λ e. refl;
       pf = λ e. refl;
@@ -145,12 +145,12 @@ a_keeps_sound r value p s = go (eqb_case (dv_of value) (dv_of r.a))
           before_the_end = rw (d, t.1) s.before_the_end;
         }
     go (inr t) =
-        let k = keeps_count_gives_kept (dv_of r.a) r.divider s.count in
+        let k = keeps_count_gives_kept (base_of r.a) r.divider s.count in
         record {
           seconds = s.seconds;
           a = omega arith;
           pattern = rw (dv_below_uip value) p;
-          count = rw (dv_below_uip value, t.1) (kept_gives_keeps_count _ _ (based_keeps (dv_of value) r.divider k.below_span));
+          count = rw (dv_below_uip value, t.1) (kept_gives_keeps_count _ _ (based_keeps (base_of value) r.divider k.below_span));
           vrt = s.vrt;
           enables = s.enables;
           pf = s.pf;
@@ -229,7 +229,7 @@ plain_keeps_sound r address value s =
       before_the_end = s.before_the_end;
     }
 
-pub write_keeps_sound : (r : Regs) (address value : ℕ) → write_access r address value ≡ Open → Sound r → Sound (written r address value)
+pub write_keeps_sound : (r : Regs) (address value : ℕ) → write_access r address value ≡ Ok tt → Sound r → Sound (written r address value)
 unfolding written
 write_keeps_sound r address value o s = go (eqb_case address 10) (eqb_case address 11)
   where
