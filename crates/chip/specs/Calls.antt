@@ -1,55 +1,47 @@
 -- The calls on a chip: answer and chip together, on every input.
-use Rattle.std.specs.Prelude.{Bool, cond, ℕ, ltb}
-use Rattle.refusals.specs.declared.Refusal.TheVariants as refusal
-use Rattle.refusals.specs.Numbers.{number_of}
-use Rattle.registers.specs.declared.Verdict.{Verdict}
-use Rattle.registers.specs.declared.Verdict.TheVariants as verdict
+use Rattle.std.specs.Prelude.{Bool, cond, ℕ, ltb, Result, Ok, Err}
+use Rattle.refusals.specs.declared.Refusal.{Refusal}
+use Rattle.refusals.specs.declared.Refusal.TheVariants.{Ticks}
 use Rattle.registers.specs.Access.{access, write_access}
 use Rattle.registers.specs.Calls.{after_read, with_pins}
 use Rattle.registers.specs.Lines.{irqf}
 use Rattle.registers.specs.Lines as registers
 use Rattle.chip.specs.declared.Chip.{Chip}
-use Rattle.chip.specs.declared.ReadAnswer.{ReadAnswer}
-use Rattle.chip.specs.declared.ReadAnswer.TheVariants as answer
-use Rattle.chip.specs.declared.Answer.{Answer}
-use Rattle.chip.specs.declared.Answer.TheVariants as plain
-use Rattle.chip.specs.declared.ReadResult.{ReadResult}
-use Rattle.chip.specs.declared.Outcome.{Outcome}
 use Rattle.chip.specs.declared.Levels.{Levels}
 use Rattle.chip.specs.Chips.{location, written, ticks}
 
--- Calls and their refusals: the paper's number of an answer, 0 where the call is accepted.
-abbrev pub read_number : ReadAnswer → ℕ
-read_number (answer.Byte b) = 0
-read_number (answer.Refused why) = number_of why
+-- Calls and their refusals: what a read answers, and the chip that it leaves.
+pub record ReadResult : Type 0 where
+  pub answer : Result ℕ Refusal
+  pub chip : Chip
 
--- Calls and their refusals: the same of a write or a run.
-abbrev pub answer_number : Answer → ℕ
-answer_number plain.Done = 0
-answer_number (plain.Refused why) = number_of why
+-- Calls and their refusals: the same of a write or a run, whose answer has no byte.
+pub record Outcome : Type 0 where
+  pub answer : Result (Unit {0}) Refusal
+  pub chip : Chip
 
 -- Calls and their refusals: the byte that a read shows, 255 where it is refused.
-abbrev pub read_byte : ReadAnswer → ℕ
-read_byte (answer.Byte b) = b
-read_byte (answer.Refused why) = 255
+abbrev pub read_byte : Result ℕ Refusal → ℕ
+read_byte (Ok b) = b
+read_byte (Err why) = 255
 
 -- Calls and their refusals, read: an open location gives its byte as it stands, and the read has its effect; a refused read changes nothing.
-abbrev pub read_by : Verdict → Chip → ℕ → ReadResult
-read_by verdict.Open chip address =
+abbrev pub read_by : Result (Unit {0}) Refusal → Chip → ℕ → ReadResult
+read_by (Ok _) chip address =
     record {
-      answer = answer.Byte (location chip address);
+      answer = Ok (location chip address);
       chip = record { regs = after_read chip.regs address; ram = chip.ram };
     }
-read_by (verdict.Refused why) chip address = record { answer = answer.Refused why; chip = chip }
+read_by (Err why) chip address = record { answer = Err why; chip = chip }
 
 -- Calls and their refusals, read: on every chip and any address.
 unfoldable pub read : Chip → ℕ → ReadResult
 read chip address = read_by (access chip.regs address) chip address
 
 -- Calls and their refusals, write: an open location takes the byte; a refused write changes nothing.
-abbrev pub write_by : Verdict → Chip → ℕ → ℕ → Outcome
-write_by verdict.Open chip address value = record { answer = plain.Done; chip = written chip address value }
-write_by (verdict.Refused why) chip address value = record { answer = plain.Refused why; chip = chip }
+abbrev pub write_by : Result (Unit {0}) Refusal → Chip → ℕ → ℕ → Outcome
+write_by (Ok _) chip address value = record { answer = Ok tt; chip = written chip address value }
+write_by (Err why) chip address value = record { answer = Err why; chip = chip }
 
 -- Calls and their refusals, write: on every chip, any address and byte.
 unfoldable pub write : Chip → ℕ → ℕ → Outcome
@@ -58,8 +50,8 @@ write chip address value = write_by (write_access chip.regs address value) chip 
 -- Calls and their refusals, run: up to 65,536 ticks; more are refused and none is made.
 unfoldable pub run : Chip → ℕ → Outcome
 run chip n =
-    cond (ltb 65536 n) (record { answer = plain.Refused refusal.Ticks; chip = chip })
-    (record { answer = plain.Done; chip = ticks n chip })
+    cond (ltb 65536 n) (record { answer = Err Ticks; chip = chip })
+    (record { answer = Ok tt; chip = ticks n chip })
 
 -- Calls and their refusals, pins: true is high. Never refused.
 unfoldable pub pins : Chip → Bool → Bool → Chip

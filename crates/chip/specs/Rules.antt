@@ -1,7 +1,7 @@
 -- The record rules, as facts about a chip.
 use Rattle.std.specs.Prelude.{◌≡◌, true, false, ◌%◌, ◌/◌, ◌<◌, leb, length}
 use Rattle.divider.specs.Divider.{running, test_pattern, keeps_count, before_end}
-use Rattle.registers.specs.Bits.{dv_of, set_on}
+use Rattle.registers.specs.Bits.{dv_of, base_of, set_on}
 use Rattle.registers.specs.Lines.{irqf}
 use Rattle.chip.specs.declared.Chip.{Chip}
 use Rattle.chip.specs.Chips.{location}
@@ -25,11 +25,11 @@ pub record Rules (chip : Chip) : Type 0 where
   pub enables_while_reset_low : chip.regs.resetlow ≡ true → location chip 11 / 8 % 16 ≡ 0
   pub flags_while_reset_low : chip.regs.resetlow ≡ true → location chip 12 ≡ 0
   -- the count is one that its base can have
-  pub count : keeps_count (dv_of (location chip 10)) chip.regs.divider ≡ true
+  pub count : keeps_count (base_of (location chip 10)) chip.regs.divider ≡ true
   -- a pending update has SET 0, a running divider, and its end before it
   pub pending_set : chip.regs.pending ≡ true → set_on (location chip 11) ≡ false
-  pub pending_runs : chip.regs.pending ≡ true → running (dv_of (location chip 10)) ≡ true
-  pub pending_before_end : chip.regs.pending ≡ true → before_end (dv_of (location chip 10)) chip.regs.divider ≡ true
+  pub pending_runs : chip.regs.pending ≡ true → running (base_of (location chip 10)) ≡ true
+  pub pending_before_end : chip.regs.pending ≡ true → before_end (base_of (location chip 10)) chip.regs.divider ≡ true
   -- the stored bits of A have no place for UIP, and the RAM has its 50 bytes
   pub a_below_uip : chip.regs.a < 128
   pub ram_size : length chip.ram ≡ 50

@@ -1,4 +1,4 @@
-// The chip by value, and every call on it but those of the saved record.
+//! The chip, and every call on it but those of the saved record.
 #![tactic(auto)]
 
 ghost use Rattle.std.specs.Prelude.{◌≡◌, ◌<◌};
@@ -6,194 +6,127 @@ ghost use Rattle.chip.specs.Chips.{location, fresh, written, ticked};
 ghost use Rattle.chip.specs.Calls.{read, write, run, pins, lines};
 
 use refusals::Refusal;
-use registers::{Regs, Verdict};
+use registers::Regs;
 
-// The registers, and the user RAM at locations 14 to 63.
-#[derive(Clone, Copy)]
+/// The most ticks that one call of `run` makes.
+pub const MOST_TICKS: u32 = 65_536;
+
+/// The registers, and the user RAM at locations 14 to 63.
+#[derive(Clone, Copy, Debug, PartialEq, Eq)]
 pub struct Chip {
     pub regs: Regs,
     pub ram: [u8; 50],
 }
 
-// What a read answers.
-#[derive(Clone, Copy)]
-pub enum ReadAnswer {
-    Byte(u8),
-    Refused(Refusal),
-}
-
-// What a write or a run answers.
-#[derive(Clone, Copy)]
-pub enum Answer {
-    Done,
-    Refused(Refusal),
-}
-
-// A read's answer, and the chip after it.
-#[derive(Clone, Copy)]
-pub struct ReadResult {
-    pub answer: ReadAnswer,
-    pub chip: Chip,
-}
-
-// A write's or a run's answer, and the chip after it.
-#[derive(Clone, Copy)]
-pub struct Outcome {
-    pub answer: Answer,
-    pub chip: Chip,
-}
-
-// The levels of the two output lines: IRQ asserted, SQW high.
-#[derive(Clone, Copy)]
+/// The levels of the two output lines.
+#[derive(Clone, Copy, Debug, PartialEq, Eq)]
 pub struct Levels {
+    /// The interrupt line is asserted.
     pub irq: bool,
+    /// The square wave is high.
     pub sqw: bool,
 }
 
-#[tactic(auto, unfolding(crate::specs::Chips::fresh))]
-pub fn fresh() -> Chip
-    ensures { result ≡ fresh }
-{
-    let ram = [0u8; 50];
-    Chip {
-        regs: registers::fresh(),
-        ram,
+impl Chip {
+    /// A fresh chip: A is hex 60, B hex 80 and every other location 0, with both pins high and the divider held.
+    #[tactic(auto, unfolding(crate::specs::Chips::fresh))]
+    pub fn fresh() -> Self
+        ensures { result ≡ fresh }
+    {
+        Chip {
+            regs: Regs::fresh(),
+            ram: [0; 50],
+        }
     }
-}
 
-// The byte that stands at a location.
-#[tactic(auto, using(crate::proofs::Laws::Locations::location_in_registers, crate::proofs::Laws::Locations::location_in_ram), unfolding(crate::specs::Chips::location, crate::specs::Chips::locations))]
-fn location(chip: Chip, address: u32) -> u8
-    requires { address < 64 }
-    ensures { result ≡ location chip address }
-{
-    if 14 <= address {
-        let at = (address - 14) as usize;
-        return chip.ram[at];
+    /// The byte that stands at a location.
+    #[tactic(auto, using(crate::proofs::Laws::Locations::location_in_registers, crate::proofs::Laws::Locations::location_in_ram), unfolding(crate::specs::Chips::location, crate::specs::Chips::locations))]
+    fn location(&self, address: u32) -> u8
+        requires { address < 64 }
+        ensures { result ≡ location self.now address }
+    {
+        if address >= 14 {
+            return self.ram[address as usize - 14];
+        }
+        self.regs.register_bytes()[address as usize]
     }
-    let bytes = registers::register_bytes(chip.regs);
-    let at = address as usize;
-    bytes[at]
-}
 
-#[tactic(auto, using(registers::proofs::Laws::Access::open_is_below_64), unfolding(crate::specs::Calls::read))]
-pub fn read(chip: Chip, address: u32) -> ReadResult
-    ensures { result ≡ read chip address }
-{
-    let verdict = registers::access(chip.regs, address);
-    if let Verdict::Refused(why) = verdict {
-        return ReadResult {
-            answer: ReadAnswer::Refused(why),
-            chip,
-        };
+    /// Reads the byte at an address from 0 to 63. A read may change the chip: one of C (12) clears the flags, one of D (13) sets VRT where PS is high.
+    /// Refused with `Address`, `Reset` or `Window`, the first that applies; the chip then stays as it was.
+    #[tactic(auto, using(registers::proofs::Laws::Access::open_is_below_64), unfolding(crate::specs::Calls::read))]
+    pub fn read(&mut self, address: u32) -> Result<u8, Refusal>
+        ensures answer { result ≡ (read self.old address).answer }
+        ensures chip { self.new ≡ (read self.old address).chip }
+    {
+        self.regs.access(address)?;
+        let byte = self.location(address);
+        self.regs.after_read(address);
+        Ok(byte)
     }
-    let byte = location(chip, address);
-    let mut next = chip;
-    let regs = registers::after_read(chip.regs, address);
-    next.regs = regs;
-    ReadResult {
-        answer: ReadAnswer::Byte(byte),
-        chip: next,
-    }
-}
 
-// The chip with a byte written at a location, with all that this brings about.
-#[tactic(auto, unfolding(crate::specs::Chips::written))]
-fn written(chip: Chip, address: u32, value: u8) -> Chip
-    requires { address < 64 }
-    ensures { result ≡ written chip address value }
-{
-    let mut next = chip;
-    if 14 <= address {
-        let at = (address - 14) as usize;
-        next.ram[at] = value;
-        return next;
+    /// Puts a byte at a location, with all that this brings about in the registers.
+    #[tactic(auto, unfolding(crate::specs::Chips::written))]
+    fn put(&mut self, address: u32, value: u8)
+        requires { address < 64 }
+        ensures { self.new ≡ written self.old address value }
+    {
+        if address >= 14 {
+            self.ram[address as usize - 14] = value;
+        } else {
+            self.regs.write(address, value);
+        }
     }
-    let regs = registers::written(chip.regs, address, value);
-    next.regs = regs;
-    next
-}
 
-#[tactic(auto, using(registers::proofs::Laws::Access::open_is_below_64, registers::proofs::Laws::Access::write_open_is_open), unfolding(crate::specs::Calls::write))]
-pub fn write(chip: Chip, address: u32, value: u8) -> Outcome
-    ensures { result ≡ write chip address value }
-{
-    let verdict = registers::write_access(chip.regs, address, value);
-    if let Verdict::Refused(why) = verdict {
-        return Outcome {
-            answer: Answer::Refused(why),
-            chip,
-        };
+    /// Writes a byte at an address from 0 to 63. Refused with `Address`, `Reset` or `Window`, then with `ReadOnly` at C (12) and D (13) and with
+    /// `TestPattern` at A (10), the first that applies; the chip then stays as it was.
+    #[tactic(auto, using(registers::proofs::Laws::Access::open_is_below_64, registers::proofs::Laws::Access::write_open_is_open), unfolding(crate::specs::Calls::write))]
+    pub fn write(&mut self, address: u32, value: u8) -> Result<(), Refusal>
+        ensures answer { result ≡ (write self.old address value).answer }
+        ensures chip { self.new ≡ (write self.old address value).chip }
+    {
+        self.regs.write_access(address, value)?;
+        self.put(address, value);
+        Ok(())
     }
-    Outcome {
-        answer: Answer::Done,
-        chip: written(chip, address, value),
+
+    /// Puts the pins RESET and PS at new levels; true is high. Never refused.
+    #[tactic(auto, unfolding(crate::specs::Calls::pins))]
+    pub fn set_pins(&mut self, reset: bool, ps: bool)
+        ensures { self.new ≡ pins self.old reset ps }
+    {
+        self.regs.set_pins(reset, ps);
     }
-}
 
-// The pins at new levels: `reset` and `ps` are true where the pin is high.
-#[tactic(auto, unfolding(crate::specs::Calls::pins))]
-pub fn pins(chip: Chip, reset: bool, ps: bool) -> Chip
-    ensures { result ≡ pins chip reset ps }
-{
-    let mut next = chip;
-    let regs = registers::with_pins(chip.regs, reset, ps);
-    next.regs = regs;
-    next
-}
-
-#[tactic(auto, unfolding(crate::specs::Calls::lines))]
-pub fn lines(chip: Chip) -> Levels
-    ensures { result ≡ lines chip }
-{
-    Levels {
-        irq: registers::irqf(chip.regs),
-        sqw: registers::sqw(chip.regs),
+    /// The levels of the interrupt line and the square wave.
+    #[tactic(auto, unfolding(crate::specs::Calls::lines))]
+    pub fn lines(&self) -> Levels
+        ensures { result ≡ lines self.now }
+    {
+        Levels {
+            irq: self.regs.irqf(),
+            sqw: self.regs.sqw(),
+        }
     }
-}
 
-// One tick, on a chip that is lent.
-pub fn tick(chip: &mut Chip)
-    ensures { chip.new ≡ ticked chip.old }
-{
-    let regs = chip.regs;
-    let next = ticks::tick(regs);
-    chip.regs = next;
-}
-
-// One tick, on a chip by value.
-pub fn ticked(chip: Chip) -> Chip
-    ensures { result ≡ ticked chip }
-{
-    let mut c = chip;
-    tick(&mut c);
-    c
-}
-
-#[tactic(auto, using(crate::proofs::Laws::Run::no_ticks, crate::proofs::Laws::Run::one_tick_more, crate::proofs::Laws::Run::ticks_work_on_registers), unfolding(crate::specs::Calls::run, crate::specs::Chips::ticks))]
-pub fn run(chip: Chip, count: u32) -> Outcome
-    ensures { result ≡ run chip count }
-{
-    if 65536 < count {
-        return Outcome {
-            answer: Answer::Refused(Refusal::Ticks),
-            chip,
-        };
+    /// One tick of the selected base.
+    pub fn tick(&mut self)
+        ensures { self.new ≡ ticked self.old }
+    {
+        ticks::tick(&mut self.regs);
     }
-    // The RAM is out of a tick's reach. It stays aside, or the loop would carry 50 bytes from tick to tick.
-    let aside = [0u8; 50];
-    let mut regs = chip.regs;
-    let mut i: u32 = 0;
-    while i < count {
-        let c = ticked(Chip { regs, ram: aside });
-        let r = c.regs;
-        regs = r;
-        i += 1;
-    }
-    let mut next = chip;
-    next.regs = regs;
-    Outcome {
-        answer: Answer::Done,
-        chip: next,
+
+    /// Makes a number of ticks, 0 to 65,536. More are refused with `Ticks`, and none is made.
+    #[tactic(auto, unfolding(crate::specs::Calls::run, crate::specs::Chips::ticks))]
+    pub fn run(&mut self, count: u32) -> Result<(), Refusal>
+        ensures answer { result ≡ (run self.old count).answer }
+        ensures chip { self.new ≡ (run self.old count).chip }
+    {
+        if count > MOST_TICKS {
+            return Err(Refusal::Ticks);
+        }
+        for _ in 0..count {
+            self.tick();
+        }
+        Ok(())
     }
 }

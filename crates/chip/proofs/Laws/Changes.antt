@@ -10,11 +10,12 @@ use lib.Dec.{ltb}
 use lib.ListN.{length, set}
 use lib.Seq.{get_or-set_same, get_or-set_other}
 use borrow.Author.Tests.{le-leb, ne_eqb}
+use Rattle.std.specs.Prelude.{Result, Ok, Err}
+use Rattle.refusals.specs.declared.Refusal.{Refusal}
 use Rattle.cases.proofs.Tests.{either, and_true, and_false, or_false}
+use Rattle.refusals.specs.Numbers.{answer_number}
 use Rattle.refusals.proofs.Laws.{refusal_has_number}
 use Rattle.registers.specs.declared.Regs.{Regs}
-use Rattle.registers.specs.declared.Verdict.{Verdict}
-use Rattle.registers.specs.declared.Verdict.TheVariants as verdict
 use Rattle.registers.specs.Locations.{register_bytes}
 use Rattle.registers.specs.Lines.{irqf}
 use Rattle.registers.specs.Access.{access, write_access}
@@ -23,7 +24,7 @@ use Rattle.registers.specs.Calls.{after_read, write_plain}
 use Rattle.registers.specs.Calls as registers
 use Rattle.chip.specs.declared.Chip.{Chip}
 use Rattle.chip.specs.Chips.{locations, location, written}
-use Rattle.chip.specs.Calls.{answer_number, read_by, read, write_by, write, run, pins}
+use Rattle.chip.specs.Calls.{read_by, read, write_by, write, run, pins}
 use Rattle.chip.proofs.Laws.Run.{ticks_work_on_registers}
 use Rattle.chip.proofs.Laws.Locations.{fourteen_registers}
 
@@ -38,19 +39,19 @@ pub read_elsewhere_changes_nothing : (chip : Chip) (address : ℕ) → (address 
 unfolding read
 read_elsewhere_changes_nothing chip address h k = go (access chip.regs address)
   where
-    go : (v : Verdict) → (read_by v chip address).chip ≡ chip
-    go verdict.Open = ap (λ (r : Regs). record { regs = r; ram = chip.ram }) (other_read chip.regs address h k)
-    go (verdict.Refused why) = refl
+    go : (v : Result (Unit {0}) Refusal) → (read_by v chip address).chip ≡ chip
+    go (Ok _) = ap (λ (r : Regs). record { regs = r; ram = chip.ram }) (other_read chip.regs address h k)
+    go (Err why) = refl
 
 -- reading C clears the three flags and nothing else
-pub read_of_c_clears_flags_alone : (chip : Chip) → access chip.regs 12 ≡ verdict.Open
+pub read_of_c_clears_flags_alone : (chip : Chip) → access chip.regs 12 ≡ Ok tt
     → (read chip 12).chip
     ≡ record { regs = with_flags chip.regs false false false; ram = chip.ram }
 unfolding read after_read
 read_of_c_clears_flags_alone chip o = rw (o, and_false chip.regs.pf, and_false chip.regs.af, and_false chip.regs.uf, or_false chip.regs.vrt)
 
 -- reading D sets VRT where PS is high and nothing else
-pub read_of_d_sets_vrt_alone : (chip : Chip) → access chip.regs 13 ≡ verdict.Open
+pub read_of_d_sets_vrt_alone : (chip : Chip) → access chip.regs 13 ≡ Ok tt
     → (read chip 13).chip
     ≡ record { regs = with_vrt chip.regs (chip.regs.vrt || not chip.regs.pslow); ram = chip.ram }
 unfolding read after_read
@@ -103,10 +104,10 @@ write_changes_that_byte_alone chip address value at e = go (write_access chip.re
     plain_written (alarm_hours q) = alarm_written chip address value (inr (inr q))
     plain_written (ram h) = ram_written chip address value h
 
-    go : (v : Verdict) → answer_number (write_by v chip address value).answer ≡ 0
+    go : (v : Result (Unit {0}) Refusal) → answer_number (write_by v chip address value).answer ≡ 0
         → (locations (write_by v chip address value).chip ≡ set (locations chip) address value) × SameBeside chip (write_by v chip address value).chip
-    go verdict.Open e = plain_written at
-    go (verdict.Refused why) e = absurd (refusal_has_number why e)
+    go (Ok _) e = plain_written at
+    go (Err why) e = absurd (refusal_has_number why e)
 
 -- user RAM reads back what was last written, and no other byte of it moves
 pub ram_reads_back : (chip : Chip) (address other value : ℕ) → 14 ≤ address → address < length (locations chip) → answer_number (write chip address value).answer ≡ 0
@@ -121,9 +122,9 @@ pub read_leaves_ram : (chip : Chip) (address : ℕ) → (read chip address).chip
 unfolding read
 read_leaves_ram chip address = go (access chip.regs address)
   where
-    go : (v : Verdict) → (read_by v chip address).chip.ram ≡ chip.ram
-    go verdict.Open = refl
-    go (verdict.Refused why) = refl
+    go : (v : Result (Unit {0}) Refusal) → (read_by v chip address).chip.ram ≡ chip.ram
+    go (Ok _) = refl
+    go (Err why) = refl
 
 pub run_leaves_ram : (chip : Chip) (n : ℕ) → (run chip n).chip.ram ≡ chip.ram
 unfolding run

@@ -5,25 +5,20 @@ use mathlib.Core.Logic.{◌⊎◌, inl, inr}
 use Prim.Native.Nat.{ℕ, ◌<◌}
 use native.Mathlib.Omega.{arith}
 use lib.Dec.{eqb, leb, ltb}
+use Rattle.std.specs.Prelude.{Result, Ok, Err}
 use Rattle.cases.proofs.Tests.{either}
 use Rattle.refusals.specs.declared.Refusal.{Refusal}
-use Rattle.refusals.specs.Numbers.{number_of}
+use Rattle.refusals.specs.Numbers.{number_of, answer_number}
 use Rattle.divider.specs.Divider.{test_pattern}
-use Rattle.registers.specs.declared.Verdict.{Verdict}
-use Rattle.registers.specs.declared.Verdict.TheVariants as verdict
 use Rattle.registers.specs.Bits.{dv_of}
 use Rattle.registers.specs.Access.{closed, access, write_access}
 use Rattle.chip.specs.declared.Chip.{Chip}
-use Rattle.chip.specs.Calls.{read_number, answer_number, read_by, read, write_by, write, run}
+use Rattle.chip.specs.Calls.{read_by, read, write_by, write, run}
 
--- ---- the verdicts' numbers
-
-abbrev verdict_number : Verdict → ℕ
-verdict_number verdict.Open = 0
-verdict_number (verdict.Refused why) = number_of why
+-- ---- the numbers of what access answers
 
 -- a test that refuses, and what comes after it
-number_of_cond : (t : Bool) (why : Refusal) (next : Verdict) → verdict_number (cond t (verdict.Refused why) next) ≡ cond t (number_of why) (verdict_number next)
+number_of_cond : (t : Bool) (why : Refusal) (next : Result (Unit {0}) Refusal) → answer_number (cond t (Err why) next) ≡ cond t (number_of why) (answer_number next)
 number_of_cond true why next = refl
 number_of_cond false why next = refl
 
@@ -31,37 +26,37 @@ number_of_cond false why next = refl
 abbrev access_number : Chip → ℕ → ℕ → ℕ
 access_number chip address next = cond (ltb 63 address) 2 (cond chip.regs.resetlow 3 (cond (leb address 9 && closed chip.regs) 4 next))
 
-read_verdict : (chip : Chip) (address : ℕ) → verdict_number (access chip.regs address) ≡ access_number chip address 0
+read_verdict : (chip : Chip) (address : ℕ) → answer_number (access chip.regs address) ≡ access_number chip address 0
 unfolding access
 read_verdict chip address = simp number_of_cond
 
 write_verdict : (chip : Chip) (address value : ℕ)
-    → verdict_number (write_access chip.regs address value)
+    → answer_number (write_access chip.regs address value)
     ≡ access_number chip address (cond (eqb address 12 || eqb address 13) 5 (cond (eqb address 10 && test_pattern (dv_of value)) 6 0))
 unfolding write_access access
 write_verdict chip address value = go (either (ltb 63 address)) (either chip.regs.resetlow) (either (leb address 9 && closed chip.regs))
   where
     go : (ltb 63 address ≡ true) ⊎ (ltb 63 address ≡ false) → (chip.regs.resetlow ≡ true) ⊎ (chip.regs.resetlow ≡ false)
         → (leb address 9 && closed chip.regs ≡ true) ⊎ (leb address 9 && closed chip.regs ≡ false)
-        → verdict_number (write_access chip.regs address value)
+        → answer_number (write_access chip.regs address value)
         ≡ access_number chip address (cond (eqb address 12 || eqb address 13) 5 (cond (eqb address 10 && test_pattern (dv_of value)) 6 0))
     go (inl a) b c = rw a
     go (inr a) (inl b) c = rw (a, b)
     go (inr a) (inr b) (inl c) = rw (a, b, c)
     go (inr a) (inr b) (inr c) = rw (a, b, c) (simp number_of_cond)
 
-read_by_number : (v : Verdict) (chip : Chip) (address : ℕ) → read_number (read_by v chip address).answer ≡ verdict_number v
-read_by_number verdict.Open chip address = refl
-read_by_number (verdict.Refused why) chip address = refl
+read_by_number : (v : Result (Unit {0}) Refusal) (chip : Chip) (address : ℕ) → answer_number (read_by v chip address).answer ≡ answer_number v
+read_by_number (Ok _) chip address = refl
+read_by_number (Err why) chip address = refl
 
-write_by_number : (v : Verdict) (chip : Chip) (address value : ℕ) → answer_number (write_by v chip address value).answer ≡ verdict_number v
-write_by_number verdict.Open chip address value = refl
-write_by_number (verdict.Refused why) chip address value = refl
+write_by_number : (v : Result (Unit {0}) Refusal) (chip : Chip) (address value : ℕ) → answer_number (write_by v chip address value).answer ≡ answer_number v
+write_by_number (Ok _) chip address value = refl
+write_by_number (Err why) chip address value = refl
 
 -- ---- the table
 
 pub read_refusals : (chip : Chip) (address : ℕ)
-    → read_number (read chip address).answer
+    → answer_number (read chip address).answer
     ≡ cond (ltb 63 address) 2 (cond chip.regs.resetlow 3 (cond (leb address 9 && closed chip.regs) 4 0))
 unfolding read
 read_refusals chip address = rw (read_by_number (access chip.regs address) chip address) (read_verdict chip address)
@@ -83,21 +78,21 @@ run_refusals chip n = go (either (ltb 65536 n))
 
 -- ---- a refused call
 
-pub refused_read_changes_nothing : (chip : Chip) (address : ℕ) → 0 < read_number (read chip address).answer → (read chip address).chip ≡ chip
+pub refused_read_changes_nothing : (chip : Chip) (address : ℕ) → 0 < answer_number (read chip address).answer → (read chip address).chip ≡ chip
 unfolding read
 refused_read_changes_nothing chip address h = go (access chip.regs address) h
   where
-    go : (v : Verdict) → 0 < read_number (read_by v chip address).answer → (read_by v chip address).chip ≡ chip
-    go verdict.Open h = absurd (omega arith)
-    go (verdict.Refused why) h = refl
+    go : (v : Result (Unit {0}) Refusal) → 0 < answer_number (read_by v chip address).answer → (read_by v chip address).chip ≡ chip
+    go (Ok _) h = absurd (omega arith)
+    go (Err why) h = refl
 
 pub refused_write_changes_nothing : (chip : Chip) (address value : ℕ) → 0 < answer_number (write chip address value).answer → (write chip address value).chip ≡ chip
 unfolding write
 refused_write_changes_nothing chip address value h = go (write_access chip.regs address value) h
   where
-    go : (v : Verdict) → 0 < answer_number (write_by v chip address value).answer → (write_by v chip address value).chip ≡ chip
-    go verdict.Open h = absurd (omega arith)
-    go (verdict.Refused why) h = refl
+    go : (v : Result (Unit {0}) Refusal) → 0 < answer_number (write_by v chip address value).answer → (write_by v chip address value).chip ≡ chip
+    go (Ok _) h = absurd (omega arith)
+    go (Err why) h = refl
 
 pub refused_run_changes_nothing : (chip : Chip) (n : ℕ) → 0 < answer_number (run chip n).answer → (run chip n).chip ≡ chip
 unfolding run

@@ -7,10 +7,10 @@ use native.Mathlib.Omega.{arith}
 use lib.Dec.{leb, ltb}
 use lib.ListN.{length, set, length-set, length-replicate}
 use borrow.Author.Tests.{le-leb, lt-leb}
+use Rattle.std.specs.Prelude.{Result, Ok, Err}
+use Rattle.refusals.specs.declared.Refusal.{Refusal}
 use Rattle.cases.proofs.Tests.{either, leb_case, and_false}
 use Rattle.registers.specs.declared.Regs.{Regs}
-use Rattle.registers.specs.declared.Verdict.{Verdict}
-use Rattle.registers.specs.declared.Verdict.TheVariants as verdict
 use Rattle.registers.specs.Bits.{dv_of, pie_on, aie_on, uie_on}
 use Rattle.registers.specs.Lines.{irqf}
 use Rattle.registers.specs.Locations.{register_c, register_bytes}
@@ -115,11 +115,11 @@ pub read_keeps_rules : (chip : Chip) (address : ℕ) → Rules chip → Rules (r
 unfolding read
 read_keeps_rules chip address k = go (access chip.regs address)
   where
-    go : (v : Verdict) → Rules (read_by v chip address).chip
-    go verdict.Open = same_ram chip _ k (read_keeps_sound chip.regs address (rules_are_sound chip k))
-    go (verdict.Refused why) = k
+    go : (v : Result (Unit {0}) Refusal) → Rules (read_by v chip address).chip
+    go (Ok _) = same_ram chip _ k (read_keeps_sound chip.regs address (rules_are_sound chip k))
+    go (Err why) = k
 
-written_keeps_rules : (chip : Chip) (address value : ℕ) → Rules chip → write_access chip.regs address value ≡ verdict.Open → Rules (written chip address value)
+written_keeps_rules : (chip : Chip) (address value : ℕ) → Rules chip → write_access chip.regs address value ≡ Ok tt → Rules (written chip address value)
 unfolding written
 written_keeps_rules chip address value k o = go (leb_case 14 address)
   where
@@ -133,9 +133,9 @@ pub write_keeps_rules : (chip : Chip) (address value : ℕ) → Rules chip → R
 unfolding write
 write_keeps_rules chip address value k = go (write_access chip.regs address value) refl
   where
-    go : (v : Verdict) → write_access chip.regs address value ≡ v → Rules (write_by v chip address value).chip
-    go verdict.Open e = written_keeps_rules chip address value k e
-    go (verdict.Refused why) e = k
+    go : (v : Result (Unit {0}) Refusal) → write_access chip.regs address value ≡ v → Rules (write_by v chip address value).chip
+    go (Ok _) e = written_keeps_rules chip address value k e
+    go (Err why) e = k
 
 pub ticks_keep_rules : (n : ℕ) (chip : Chip) → Rules chip → Rules (ticks n chip)
 ticks_keep_rules n chip k = rw (ticks_work_on_registers n chip) (same_ram chip _ k (ticks_keep_sound n chip.regs (rules_are_sound chip k)))

@@ -1,8 +1,6 @@
 -- n ticks, one after the other.
-use mathlib.Core.Path.{◌≡◌, refl, sym, ap, ◌∙◌}
-use Prim.Native.Nat.{ℕ, zero, suc, ◌+◌}
-use native.Mathlib.Numerals.{add-one}
-use Rattle.registers.specs.declared.Regs.{Regs}
+use mathlib.Core.Path.{◌≡◌, refl, ap}
+use Prim.Native.Nat.{ℕ, zero, suc}
 use Rattle.ticks.specs.Tick as tick
 use Rattle.chip.specs.declared.Chip.{Chip}
 use Rattle.chip.specs.Chips.{ticked, ticks}
@@ -12,13 +10,3 @@ pub ticks_work_on_registers : (n : ℕ) (chip : Chip) → ticks n chip ≡ recor
 unfolding ticks tick.ticks
 ticks_work_on_registers zero chip = refl
 ticks_work_on_registers (suc n) chip = ap ticked (ticks_work_on_registers n chip)
-
--- ---- the loop of the code, on the registers
-
-pub no_ticks : (r : Regs) → r ≡ tick.ticks 0 r
-unfolding tick.ticks
-no_ticks r = refl
-
-pub one_tick_more : (first now next : Regs) (i : ℕ) → now ≡ tick.ticks i first → next ≡ tick.tick now → next ≡ tick.ticks (i + 1) first
-unfolding tick.ticks
-one_tick_more first now next i e t = t ∙ ap tick.tick e ∙ ap (λ (k : ℕ). tick.ticks k first) (sym (add-one i))

@@ -7,11 +7,11 @@ use Rattle.cases.proofs.Tests.{either, false_is_not_true}
 use Rattle.calendar.specs.Update.{update}
 use Rattle.calendar.proofs.Laws.Bytes.{advance_seconds_below_128}
 use Rattle.divider.specs.Divider.{running, moved, rose, at_zero, at_end, keeps_count}
-use Rattle.divider.proofs.Laws.Base.{Base, running_is_base}
+use Rattle.divider.proofs.Laws.Base.{OfBase, running_is_base}
 use Rattle.divider.proofs.Laws.Keeps.{Kept, keeps_count_gives_kept, kept_gives_keeps_count, moved_keeps}
 use Rattle.divider.proofs.Laws.Formula.{pending_stays_before_end}
 use Rattle.registers.specs.declared.Regs.{Regs}
-use Rattle.registers.specs.Bits.{dv_of, rate_of, set_on}
+use Rattle.registers.specs.Bits.{base_of, rate_of, set_on}
 use Rattle.registers.proofs.Laws.Sound.{Sound}
 use Rattle.ticks.specs.Tick.{counted, flagged, awaiting, new_time, updated, finished, tick, ticks}
 
@@ -37,15 +37,15 @@ waits_or_zero true false set e = refl
 waits_or_zero false true set e = refl
 waits_or_zero false false set e = e
 
-module _ (r : Regs) (s : Sound r) (on : running (dv_of r.a) ≡ true) where
-  base : Base (dv_of r.a)
-  base = running_is_base (dv_of r.a) on
+module _ (r : Regs) (s : Sound r) (on : running (base_of r.a) ≡ true) where
+  base : OfBase (base_of r.a)
+  base = running_is_base (base_of r.a) on
 
-  kept : Kept (dv_of r.a) r.divider
-  kept = keeps_count_gives_kept (dv_of r.a) r.divider s.count
+  kept : Kept (base_of r.a) r.divider
+  kept = keeps_count_gives_kept (base_of r.a) r.divider s.count
 
-  moved_kept : keeps_count (dv_of r.a) (moved (dv_of r.a) r.divider) ≡ true
-  moved_kept = kept_gives_keeps_count _ _ (moved_keeps (dv_of r.a) r.divider kept)
+  moved_kept : keeps_count (base_of r.a) (moved (base_of r.a) r.divider) ≡ true
+  moved_kept = kept_gives_keeps_count _ _ (moved_keeps (base_of r.a) r.divider kept)
 
   ended_is_sound : Sound (updated (awaiting (flagged (counted r))))
   unfolding updated awaiting flagged counted update
@@ -57,7 +57,7 @@ module _ (r : Regs) (s : Sound r) (on : running (dv_of r.a) ≡ true) where
         count = moved_kept;
         vrt = s.vrt;
         enables = s.enables;
-        pf = λ e. stays_down r.pf (rose (dv_of r.a) (rate_of r.a) (moved (dv_of r.a) r.divider)) r.resetlow s.pf e;
+        pf = λ e. stays_down r.pf (rose (base_of r.a) (rate_of r.a) (moved (base_of r.a) r.divider)) r.resetlow s.pf e;
         af = λ e. stays_down r.af (new_time r).matched r.resetlow s.af e;
         uf = λ e. down_too r.uf r.resetlow s.uf e;
         set = λ e. false_is_not_true e;
@@ -65,7 +65,7 @@ module _ (r : Regs) (s : Sound r) (on : running (dv_of r.a) ≡ true) where
         before_the_end = λ e. false_is_not_true e;
       }
 
-  waiting_is_sound : ((awaiting (flagged (counted r))).pending && at_end (dv_of r.a) (moved (dv_of r.a) r.divider) ≡ false) → Sound (awaiting (flagged (counted r)))
+  waiting_is_sound : ((awaiting (flagged (counted r))).pending && at_end (base_of r.a) (moved (base_of r.a) r.divider) ≡ false) → Sound (awaiting (flagged (counted r)))
   unfolding awaiting flagged counted
   waiting_is_sound goes_on =
       record {
@@ -75,34 +75,34 @@ module _ (r : Regs) (s : Sound r) (on : running (dv_of r.a) ≡ true) where
         count = moved_kept;
         vrt = s.vrt;
         enables = s.enables;
-        pf = λ e. stays_down r.pf (rose (dv_of r.a) (rate_of r.a) (moved (dv_of r.a) r.divider)) r.resetlow s.pf e;
+        pf = λ e. stays_down r.pf (rose (base_of r.a) (rate_of r.a) (moved (base_of r.a) r.divider)) r.resetlow s.pf e;
         af = s.af;
         uf = s.uf;
-        set = λ e. waits_with_set_0 r.pending (at_zero (moved (dv_of r.a) r.divider)) (set_on r.b) s.set e;
+        set = λ e. waits_with_set_0 r.pending (at_zero (moved (base_of r.a) r.divider)) (set_on r.b) s.set e;
         runs = λ e. on;
         before_the_end =
             λ e.
-            pending_stays_before_end (dv_of r.a) r.divider r.pending base kept s.before_the_end
-            (waits_or_zero r.pending (at_zero (moved (dv_of r.a) r.divider)) (set_on r.b) e)
+            pending_stays_before_end (base_of r.a) r.divider r.pending base kept s.before_the_end
+            (waits_or_zero r.pending (at_zero (moved (base_of r.a) r.divider)) (set_on r.b) e)
             (rw e at goes_on);
       }
 
 pub tick_keeps_sound : (r : Regs) → Sound r → Sound (tick r)
 unfolding tick finished
-tick_keeps_sound r s = go (either (running (dv_of r.a)))
+tick_keeps_sound r s = go (either (running (base_of r.a)))
   where
     moved_on : Regs
     moved_on = awaiting (flagged (counted r))
 
-    same : (dv_of moved_on.a ≡ dv_of r.a) × (moved_on.divider ≡ moved (dv_of r.a) r.divider)
+    same : (base_of moved_on.a ≡ base_of r.a) × (moved_on.divider ≡ moved (base_of r.a) r.divider)
     same = unfold awaiting in unfold flagged in unfold counted in (refl, refl)
 
-    go : (running (dv_of r.a) ≡ true) ⊎ (running (dv_of r.a) ≡ false) → Sound (tick r)
+    go : (running (base_of r.a) ≡ true) ⊎ (running (base_of r.a) ≡ false) → Sound (tick r)
     go (inr off) = rw off s
-    go (inl on) = rw on (ended (either (moved_on.pending && at_end (dv_of moved_on.a) moved_on.divider)))
+    go (inl on) = rw on (ended (either (moved_on.pending && at_end (base_of moved_on.a) moved_on.divider)))
       where
-        ended : (moved_on.pending && at_end (dv_of moved_on.a) moved_on.divider ≡ true) ⊎ (moved_on.pending && at_end (dv_of moved_on.a) moved_on.divider ≡ false)
-            → Sound (cond (moved_on.pending && at_end (dv_of moved_on.a) moved_on.divider) (updated moved_on) moved_on)
+        ended : (moved_on.pending && at_end (base_of moved_on.a) moved_on.divider ≡ true) ⊎ (moved_on.pending && at_end (base_of moved_on.a) moved_on.divider ≡ false)
+            → Sound (cond (moved_on.pending && at_end (base_of moved_on.a) moved_on.divider) (updated moved_on) moved_on)
         ended (inl e) = rw e (ended_is_sound r s on)
         ended (inr e) = rw e (waiting_is_sound r s on (rw (same.0, same.1) at e))
 
