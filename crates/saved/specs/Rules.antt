@@ -2,7 +2,7 @@
 use Rattle.std.specs.Prelude.{◌≡◌, Bool, true, false, ◌&&◌, ◌||◌, not, List, ℕ, ◌/◌, ◌%◌, ◌<◌, eqb, leb, ltb}
 use Rattle.std.specs.Bool.{beq}
 use Rattle.divider.specs.Divider.{test_pattern, running, keeps_count, before_end}
-use Rattle.registers.specs.Bits.{dv_of, set_on}
+use Rattle.registers.specs.Bits.{dv_of, base_of, set_on}
 use Rattle.registers.specs.Lines.{irqf}
 use Rattle.saved.specs.Record.{byte_at, pending_in, reset_low_in, ps_low_in, divider_in, regs_in}
 
@@ -42,7 +42,7 @@ flags_while_reset_low_rule l = not (reset_low_in l) || eqb (byte_at l 12) 0
 
 -- Saved chip, record rules: the count is one that its base can have.
 abbrev pub count_by_base_rule : List ℕ → Bool
-count_by_base_rule l = keeps_count (dv_of (byte_at l 10)) (divider_in l)
+count_by_base_rule l = keeps_count (base_of (byte_at l 10)) (divider_in l)
 
 -- Saved chip, record rules: bit 7 of A is the pending bit.
 abbrev pub uip_is_pending_rule : List ℕ → Bool
@@ -54,11 +54,11 @@ pending_set_rule l = not (pending_in l) || not (set_on (byte_at l 11))
 
 -- Saved chip, record rules: and a divider that runs.
 abbrev pub pending_runs_rule : List ℕ → Bool
-pending_runs_rule l = not (pending_in l) || running (dv_of (byte_at l 10))
+pending_runs_rule l = not (pending_in l) || running (base_of (byte_at l 10))
 
 -- Saved chip, record rules: and a count below E.
 abbrev pub pending_before_end_rule : List ℕ → Bool
-pending_before_end_rule l = not (pending_in l) || before_end (dv_of (byte_at l 10)) (divider_in l)
+pending_before_end_rule l = not (pending_in l) || before_end (base_of (byte_at l 10)) (divider_in l)
 
 -- Saved chip, record rules: bits 4 to 7 of byte 67 are 0.
 abbrev pub upper_bits_rule : List ℕ → Bool
@@ -112,11 +112,11 @@ pub record RecordRules (l : List ℕ) : Type 0 where
   pub vrt_while_ps_low : ps_low_in l ≡ true → byte_at l 13 ≡ 0
   pub enables_while_reset_low : reset_low_in l ≡ true → byte_at l 11 / 8 % 16 ≡ 0
   pub flags_while_reset_low : reset_low_in l ≡ true → byte_at l 12 ≡ 0
-  pub count : keeps_count (dv_of (byte_at l 10)) (divider_in l) ≡ true
+  pub count : keeps_count (base_of (byte_at l 10)) (divider_in l) ≡ true
   pub uip : leb 128 (byte_at l 10) ≡ pending_in l
   pub pending_set : pending_in l ≡ true → set_on (byte_at l 11) ≡ false
-  pub pending_runs : pending_in l ≡ true → running (dv_of (byte_at l 10)) ≡ true
-  pub pending_before_end : pending_in l ≡ true → before_end (dv_of (byte_at l 10)) (divider_in l) ≡ true
+  pub pending_runs : pending_in l ≡ true → running (base_of (byte_at l 10)) ≡ true
+  pub pending_before_end : pending_in l ≡ true → before_end (base_of (byte_at l 10)) (divider_in l) ≡ true
   pub upper_bits : byte_at l 67 < 16
   pub spare_68 : byte_at l 68 ≡ 0
   pub spare_69 : byte_at l 69 ≡ 0

@@ -1,33 +1,11 @@
--- Lists that are put together from parts: what the copying leaves, and a record inside a page.
+-- Lists that are put together from parts: a record inside a page, and a part element by element.
 use mathlib.Core.Path.{◌≡◌, refl, sym, ap, ◌∙◌}
-use mathlib.Core.List.{List, [], ◌∷◌, ◌++◌, append-nil, append_assoc}
+use mathlib.Core.List.{List, [], ◌∷◌, ◌++◌}
 use Prim.Native.Nat.{ℕ, zero, suc, ◌+◌, ◌-◌, ◌≤◌}
 use native.Mathlib.Nat.{le_of_suc-le-suc}
 use native.Mathlib.Omega.{arith}
-use lib.ListN.{length, get_or, take, drop, length-append, length-drop, drop_of_length-le}
-use lib.Seq.{paste, take-length, take_at, take_all, get_or-drop, drop-append-add, drop-drop}
-
--- ---- copied in
-
--- a part copied in behind what stands already
-paste_behind : (done rest part : List ℕ) → paste (done ++ rest) (length done) part (length part) ≡ (done ++ part) ++ drop (length part) rest
-paste_behind done rest part = rw (take_at done rest (length done) refl, take-length part, drop-append-add done rest (length part), append_assoc)
-
--- three parts that fill a list, copied in one after the other, at 0, i and j: `first`, `second` and `third` are what each copy left
-pub three_parts_fill : (l first second third a b c : List ℕ) (i j : ℕ) → length a ≡ i → length (a ++ b) ≡ j → length l ≡ j + length c
-    → first ≡ paste l 0 a (length a) → second ≡ paste first i b (length b) → third ≡ paste second j c (length c)
-    → third ≡ (a ++ b) ++ c
-three_parts_fill l first second third a b c i j p q h e f g =
-    let n : length (drop (length b) (drop (length a) l)) ≤ length c = simp length-drop (omega (arith, length-append a b)) in
-    let z : drop (length c) (drop (length b) (drop (length a) l)) ≡ [] = drop_of_length-le _ n in
-    rw (g, f, e, ← q, ← p, paste_behind [] l a, paste_behind a (drop (length a) l) b, paste_behind (a ++ b) (drop (length b) (drop (length a) l)) c, z, append-nil)
-
--- a part as long as the list that it is copied into
-pub part_fills : (l a : List ℕ) → length l ≡ length a → paste l 0 a (length a) ≡ a
-part_fills l a h =
-    let n : length l ≤ length a = omega arith in
-    let z : drop (length a) l ≡ [] = drop_of_length-le l n in
-    rw (paste_behind [] l a, z, append-nil)
+use lib.ListN.{length, get_or, take, drop, length-drop}
+use lib.Seq.{take_all, get_or-drop, drop-drop}
 
 -- ---- lent
 

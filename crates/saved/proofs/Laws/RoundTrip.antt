@@ -9,7 +9,7 @@ use lib.Seq.{take_at, take-add, get_or-append-add}
 use Rattle.divider.specs.Divider.{count_of, keeps_count, before_end}
 use Rattle.divider.proofs.Laws.Count.{count_of_of_count, of_count_count_of}
 use Rattle.registers.specs.declared.Regs.{Regs}
-use Rattle.registers.specs.Bits.{dv_of}
+use Rattle.registers.specs.Bits.{base_of}
 use Rattle.registers.specs.Lines.{irqf}
 use Rattle.registers.specs.Locations.{register_bytes}
 use Rattle.chip.specs.declared.Chip.{Chip}
@@ -91,11 +91,11 @@ module _ (chip : Chip) (fifty : length chip.ram ≡ 50) (back : chip_of (record_
         vrt_while_ps_low = λ h. r.vrt_while_ps_low (sym ps ∙ h);
         enables_while_reset_low = λ h. r.enables_while_reset_low (sym reset ∙ h);
         flags_while_reset_low = λ h. r.flags_while_reset_low (sym reset ∙ h);
-        count = ap (keeps_count (dv_of (location chip 10))) divider ∙ r.count;
+        count = ap (keeps_count (base_of (location chip 10))) divider ∙ r.count;
         uip = r.uip ∙ sym pending;
         pending_set = λ h. r.pending_set (sym pending ∙ h);
         pending_runs = λ h. r.pending_runs (sym pending ∙ h);
-        pending_before_end = λ h. ap (before_end (dv_of (location chip 10))) divider ∙ r.pending_before_end (sym pending ∙ h);
+        pending_before_end = λ h. ap (before_end (base_of (location chip 10))) divider ∙ r.pending_before_end (sym pending ∙ h);
         upper_bits = rw (flags_at chip fifty) (flags_taken_out chip.regs).4;
         spare_68 = tail_at chip fifty 4;
         spare_69 = tail_at chip fifty 5;
@@ -119,10 +119,10 @@ module _ (chip : Chip) (fifty : length chip.ram ≡ 50) (back : chip_of (record_
         vrt_while_ps_low = λ h. r.vrt_while_ps_low (ps ∙ h);
         enables_while_reset_low = λ h. r.enables_while_reset_low (reset ∙ h);
         flags_while_reset_low = λ h. r.flags_while_reset_low (reset ∙ h);
-        count = sym (ap (keeps_count (dv_of (location chip 10))) divider) ∙ r.count;
+        count = sym (ap (keeps_count (base_of (location chip 10))) divider) ∙ r.count;
         pending_set = λ h. r.pending_set (pending ∙ h);
         pending_runs = λ h. r.pending_runs (pending ∙ h);
-        pending_before_end = λ h. sym (ap (before_end (dv_of (location chip 10))) divider) ∙ r.pending_before_end (pending ∙ h);
+        pending_before_end = λ h. sym (ap (before_end (base_of (location chip 10))) divider) ∙ r.pending_before_end (pending ∙ h);
         a_below_uip = a;
         ram_size = fifty;
       }
