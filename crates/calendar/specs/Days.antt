@@ -1,5 +1,6 @@
 -- The last day of a month, of numbers and of bytes.
 use Rattle.std.specs.Prelude.{Bool, cond, ◌&&◌, List, [], ◌∷◌, ℕ, ◌-◌, ◌%◌, eqb, get_or}
+use Rattle.fields.specs.declared.DataMode.{DataMode}
 use Rattle.fields.specs.Bytes.{value_of, in_range}
 
 -- Advancing by one second, last days: the twelve of a year, January first; February has 29 in a leap year.
@@ -15,10 +16,10 @@ abbrev pub leap_year : ℕ → Bool
 leap_year y = eqb (y % 4) 0
 
 -- Advancing by one second, last days: a year byte is that of a leap year if it is valid and its number is divisible by 4.
-abbrev pub is_leap : Bool → ℕ → Bool
-is_leap binary year = in_range binary 0 99 year && leap_year (value_of binary year)
+abbrev pub is_leap : DataMode → ℕ → Bool
+is_leap mode year = in_range mode 0 99 year && leap_year (value_of mode year)
 
 -- Advancing by one second, last days: the last day by the month and year bytes. A byte that is no month has 31 days.
-unfoldable pub last_day_of : Bool → ℕ → ℕ → ℕ
-last_day_of binary month year =
-    cond (in_range binary 1 12 month) (last_day (is_leap binary year) (value_of binary month)) 31
+unfoldable pub last_day_of : DataMode → ℕ → ℕ → ℕ
+last_day_of mode month year =
+    cond (in_range mode 1 12 month) (last_day (is_leap mode year) (value_of mode month)) 31

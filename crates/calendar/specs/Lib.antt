@@ -1,3 +1,4 @@
+pub mod Bytes
 pub mod Days
 pub mod Advance
 pub mod Daylight

@@ -1,3 +1,4 @@
 pub mod Days
 pub mod Times
 pub mod Calls
+pub mod Examples

@@ -16,26 +16,26 @@ century = 3155760000
 -- Advancing by one second, a valid time: each byte is in its range for the mode, and the date is one of its month's.
 unfoldable pub is_valid : Mode → Clock → Bool
 is_valid m c =
-    in_range m.binary 0 59 c.seconds
-    && (in_range m.binary 0 59 c.minutes
+    in_range m.data 0 59 c.seconds
+    && (in_range m.data 0 59 c.minutes
     && (hour_in_range m c.hours
-    && (in_range m.binary 1 7 c.weekday
-    && (in_range m.binary 1 12 c.month
-    && (in_range m.binary 0 99 c.year
-    && in_range m.binary 1 (last_day_of m.binary c.month c.year) c.date)))))
+    && (in_range m.data 1 7 c.weekday
+    && (in_range m.data 1 12 c.month
+    && (in_range m.data 0 99 c.year
+    && in_range m.data 1 (last_day_of m.data c.month c.year) c.date)))))
 
 -- Advancing by one second, a valid time: the day that the date, the month and the year name.
 abbrev pub day_number : Mode → Clock → ℕ
-day_number m c = day_of (value_of m.binary c.year) (value_of m.binary c.month) (value_of m.binary c.date)
+day_number m c = day_of (value_of m.data c.year) (value_of m.data c.month) (value_of m.data c.date)
 
 -- Advancing by one second, a valid time: the seconds from the first midnight of year 00 to what the clock tells.
 abbrev pub seconds_of : Mode → Clock → ℕ
 seconds_of m c =
-    ((day_number m c * 24 + hour_of m c.hours) * 60 + value_of m.binary c.minutes) * 60 + value_of m.binary c.seconds
+    ((day_number m c * 24 + hour_of m c.hours) * 60 + value_of m.data c.minutes) * 60 + value_of m.data c.seconds
 
 -- Advancing by one second, a valid time: what it decodes to.
 unfoldable pub time_of : Mode → Clock → Time
-time_of m c = record { weekday = value_of m.binary c.weekday; seconds = seconds_of m c }
+time_of m c = record { weekday = value_of m.data c.weekday; seconds = seconds_of m c }
 
 -- Advancing by one second, a valid time: the times that have bytes: seven weekdays, and a century of seconds.
 unfoldable pub is_time : Time → Bool
@@ -45,13 +45,13 @@ is_time t = leb 1 t.weekday && (leb t.weekday 7 && ltb t.seconds century)
 unfoldable pub clock_of : Mode → Time → Clock
 clock_of m t =
     record {
-      seconds = byte_of m.binary (t.seconds % 60);
-      minutes = byte_of m.binary (t.seconds / 60 % 60);
+      seconds = byte_of m.data (t.seconds % 60);
+      minutes = byte_of m.data (t.seconds / 60 % 60);
       hours = hour_byte m (t.seconds / 3600 % 24);
-      weekday = byte_of m.binary t.weekday;
-      date = byte_of m.binary (date_of (t.seconds / 86400));
-      month = byte_of m.binary (month_of (t.seconds / 86400));
-      year = byte_of m.binary (year_of (t.seconds / 86400));
+      weekday = byte_of m.data t.weekday;
+      date = byte_of m.data (date_of (t.seconds / 86400));
+      month = byte_of m.data (month_of (t.seconds / 86400));
+      year = byte_of m.data (year_of (t.seconds / 86400));
     }
 
 -- Advancing by one second: a time one second later, which goes round after a hundred years. The weekday moves at midnight alone.
@@ -62,7 +62,7 @@ second_later t =
       seconds = (t.seconds + 1) % century;
     }
 
--- Demand 3: a time n seconds later. The weekday has moved one for each day passed.
+-- Advancing by one second: a time n seconds later. The weekday has moved one for each day passed.
 unfoldable pub later : ℕ → Time → Time
 later n t =
     record {

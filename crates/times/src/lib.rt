@@ -1,259 +1,194 @@
-// Clock bytes and times: what seven bytes mean as a weekday and seconds, and the bytes of a weekday and seconds.
+//! Clock bytes and times: what seven bytes mean as a weekday and seconds, and the bytes of a weekday and seconds.
 #![tactic(auto)]
 
-ghost use Rattle.std.specs.Prelude.{◌≡◌, true, ◌+◌, ◌*◌, ◌<◌, ◌≤◌, length, replicate};
-ghost use Rattle.calendar.specs.Days.{last_days, leap_year};
+ghost use Rattle.std.specs.Prelude.{◌≡◌, true, ◌+◌, ◌-◌, ◌*◌, ◌<◌, ◌≤◌};
+ghost use Rattle.calendar.specs.Days.{last_days};
 ghost use Rattle.times.specs.Days.{before, days_before_year, day_of, year_of, month_in, date_in};
 ghost use Rattle.times.specs.Times.{is_valid, is_time, time_of, clock_of};
-ghost use Rattle.times.specs.Calls.{clock_at, bytes_of, decoded, encoded, encoding_of};
+ghost use Rattle.times.specs.Calls.{decoded, encoded};
+ghost use Rattle.times.specs.Examples.{AllSay, starred};
 
 use calendar::Clock;
 use fields::Mode;
 use refusals::Refusal;
 
-// A weekday, 1 for Sunday, and the seconds that have passed in the century.
-#[derive(Clone, Copy)]
+/// A weekday, and the seconds that have passed in the century. Any numbers may stand in it: `encode` refuses those that have no bytes.
+#[derive(Clone, Copy, Debug, PartialEq, Eq)]
 pub struct Time {
+    /// 1 for Sunday to 7 for Saturday.
     pub weekday: u32,
+    /// Seconds since the first midnight of year 00: 0 to 3,155,759,999.
     pub seconds: u64,
 }
 
-// What seven bytes decode to.
-#[derive(Clone, Copy)]
-pub enum Decoded {
-    Valid(Time),
-    Refused(Refusal),
-}
-
-// How an encode ended.
-#[derive(Clone, Copy)]
-pub enum Encoded {
-    Done,
-    Refused(Refusal),
-}
-
-// A month and a date in it.
-#[derive(Clone, Copy)]
-pub struct Place {
-    pub month: u8,
-    pub date: u8,
-}
-
-// Whether the clock's bytes are a valid time.
+/// Whether the clock's bytes are a valid time: each is in its range for the mode, and the date is one of its month's.
 #[tactic(auto, unfolding(crate::specs::Times::is_valid))]
 pub fn is_valid(mode: Mode, clock: Clock) -> bool
     ensures { result ≡ is_valid mode clock }
 {
-    let s = fields::in_range(mode.binary, 0, 59, clock.seconds);
-    let n = fields::in_range(mode.binary, 0, 59, clock.minutes);
-    let h = fields::hour_in_range(mode, clock.hours);
-    let w = fields::in_range(mode.binary, 1, 7, clock.weekday);
-    let m = fields::in_range(mode.binary, 1, 12, clock.month);
-    let y = fields::in_range(mode.binary, 0, 99, clock.year);
-    let last = calendar::last_day_of(mode.binary, clock.month, clock.year);
-    let d = fields::in_range(mode.binary, 1, last, clock.date);
-    s & (n & (h & (w & (m & (y & d)))))
+    let data = mode.data;
+    let last = calendar::last_day_of(data, clock.month, clock.year);
+    data.is_in_range(0, 59, clock.seconds)
+        && data.is_in_range(0, 59, clock.minutes)
+        && mode.is_hour(clock.hours)
+        && data.is_in_range(1, 7, clock.weekday)
+        && data.is_in_range(1, 12, clock.month)
+        && data.is_in_range(0, 99, clock.year)
+        && data.is_in_range(1, last, clock.date)
 }
 
-// Whether a time can be turned into bytes.
-#[tactic(auto, unfolding(crate::specs::Times::is_time))]
-pub fn is_time(time: Time) -> bool
-    ensures { result ≡ is_time time }
-{
-    (1 <= time.weekday) & ((time.weekday <= 7) & (time.seconds < 3155760000))
-}
-
-// The days of a year before its month i, January being month 0.
+/// The days of a year before one of its months, 1 for January to 12.
 #[tactic(auto, using(crate::proofs::Laws::Code::no_month, crate::proofs::Laws::Code::one_month_more), unfolding(calendar::specs::Days::last_days))]
-fn days_before_month(leap: bool, i: u8) -> u32
-    requires { i ≤ 12 }
-    ensures { result ≡ before (last_days leap) i }
+fn days_before_month(leap: bool, month: u8) -> u32
+    requires { (1 ≤ month) × (month ≤ 12) }
+    ensures { result ≡ before (last_days leap) (month - 1) }
 {
-    let mut sum: u32 = 0;
-    let mut k: u8 = 0;
-    while k < i {
-        sum += calendar::last_day(leap, k + 1) as u32;
-        k += 1;
+    let mut days = 0;
+    for earlier in 1..month {
+        days += u32::from(calendar::last_day(leap, earlier));
     }
-    sum
+    days
 }
 
-// The days before a year.
+/// The days before a year.
 #[tactic(auto, using(crate::proofs::Laws::Days::years_closed), unfolding(crate::specs::Days::days_before_year))]
-fn days_before_year(y: u8) -> u32
-    ensures { result ≡ days_before_year y }
+fn days_before_year(year: u8) -> u32
+    ensures { result ≡ days_before_year year }
 {
-    365 * (y as u32) + ((y as u32) + 3) / 4
+    365 * u32::from(year) + (u32::from(year) + 3) / 4
 }
 
-// The days from 1 January of year 00 to a date.
+/// The days from 1 January of year 00 to a date.
 #[tactic(auto, using(crate::proofs::Laws::Code::days_fit), unfolding(crate::specs::Days::day_of))]
-fn day_of(y: u8, month: u8, date: u8) -> u32
-    requires { (y ≤ 99) × (1 ≤ month) × (month ≤ 12) × (1 ≤ date) }
-    ensures { result ≡ day_of y month date }
+fn day_of(year: u8, month: u8, date: u8) -> u32
+    requires { (year ≤ 99) × (1 ≤ month) × (month ≤ 12) × (1 ≤ date) }
+    ensures { result ≡ day_of year month date }
 {
-    let leap = y % 4 == 0;
-    days_before_year(y) + days_before_month(leap, month - 1) + ((date - 1) as u32)
+    days_before_year(year) + days_before_month(year % 4 == 0, month) + u32::from(date - 1)
 }
 
-// The seconds to a time of a day.
-fn seconds_of(day: u32, h: u8, n: u8, s: u8) -> u64
-    requires { (day < 36525) × (h < 24) × (n ≤ 59) × (s ≤ 59) }
-    ensures { result ≡ ((day * 24 + h) * 60 + n) * 60 + s }
+/// The seconds to a time of a day.
+fn seconds_of(day: u32, hour: u8, minute: u8, second: u8) -> u64
+    requires { (day < 36525) × (hour < 24) × (minute ≤ 59) × (second ≤ 59) }
+    ensures { result ≡ ((day * 24 + hour) * 60 + minute) * 60 + second }
 {
-    (((day as u64) * 24 + (h as u64)) * 60 + (n as u64)) * 60 + (s as u64)
+    ((u64::from(day) * 24 + u64::from(hour)) * 60 + u64::from(minute)) * 60 + u64::from(second)
 }
 
-// The time that a valid clock tells.
-#[tactic(auto, using(fields::proofs::Laws::Hours::hour_below_24, crate::proofs::Laws::Days::day_below_36525, crate::proofs::Laws::Valid::valid_fact, crate::proofs::Laws::Valid::valid_date), unfolding(crate::specs::Times::time_of))]
-fn time_of(mode: Mode, clock: Clock) -> Time
-    requires { is_valid mode clock ≡ true }
-    ensures { result ≡ time_of mode clock }
-{
-    let s = fields::value_of(mode.binary, clock.seconds);
-    let n = fields::value_of(mode.binary, clock.minutes);
-    let h = fields::hour_of(mode, clock.hours);
-    let w = fields::value_of(mode.binary, clock.weekday);
-    let d = fields::value_of(mode.binary, clock.date);
-    let m = fields::value_of(mode.binary, clock.month);
-    let y = fields::value_of(mode.binary, clock.year);
-    let day = day_of(y, m, d);
-    Time {
-        weekday: w as u32,
-        seconds: seconds_of(day, h, n, s),
-    }
-}
-
-// The year that a day falls in.
+/// The year that a day falls in.
 #[tactic(auto, unfolding(crate::specs::Days::year_of))]
 fn year_of(day: u32) -> u8
     requires { day < 36525 }
     ensures { result ≡ year_of day }
 {
-    let rest = day % 1461;
-    if rest == 0 {
-        return (day / 1461 * 4) as u8;
-    }
-    (day / 1461 * 4 + (rest - 1) / 365) as u8
+    (day / 1461 * 4 + (day % 1461).saturating_sub(1) / 365) as u8
 }
 
-// The month and the date of a day of a year, the first being day 0.
-#[tactic(auto, using(crate::proofs::Laws::Code::reached_first))]
-fn place_of(leap: bool, day: u32) -> Place
+/// The month and the date of a day of a year, the first being day 0.
+#[tactic(auto, using(crate::proofs::Laws::Code::reached_first, crate::proofs::Laws::Code::reached_next))]
+fn place_of(leap: bool, day: u32) -> (u8, u8)
     requires { day < before (last_days leap) 12 }
-    ensures { (result.month ≡ month_in leap day) × (result.date ≡ date_in leap day) }
+    ensures { (result.0 ≡ month_in leap day) × (result.1 ≡ date_in leap day) }
 {
     let mut left = day;
-    let mut i: u8 = 0;
-    let mut last = calendar::last_day(leap, 1) as u32;
-    while last <= left {
+    for month in 1..12 {
+        let last = u32::from(calendar::last_day(leap, month));
+        if left < last {
+            return (month, left as u8 + 1);
+        }
         left -= last;
-        i += 1;
-        last = calendar::last_day(leap, i + 1) as u32;
     }
-    Place {
-        month: i + 1,
-        date: (left as u8) + 1,
-    }
+    (12, left as u8 + 1)
 }
 
-// The clock that tells a time.
-#[tactic(auto, using(crate::proofs::Laws::Code::date_fits, crate::proofs::Laws::Days::year_starts_before, crate::proofs::Laws::Days::day_in_year, crate::proofs::Laws::Valid::time_fact), unfolding(crate::specs::Times::clock_of))]
-fn clock_of(mode: Mode, time: Time) -> Clock
-    requires { is_time time ≡ true }
-    ensures { result ≡ clock_of mode time }
-{
-    let s = fields::byte_of(mode.binary, (time.seconds % 60) as u8);
-    let n = fields::byte_of(mode.binary, (time.seconds / 60 % 60) as u8);
-    let h = fields::hour_byte(mode, (time.seconds / 3600 % 24) as u8);
-    let w = fields::byte_of(mode.binary, time.weekday as u8);
-    let day = (time.seconds / 86400) as u32;
-    let y = year_of(day);
-    let place = place_of(y % 4 == 0, day - days_before_year(y));
-    let d = fields::byte_of(mode.binary, place.date);
-    let m = fields::byte_of(mode.binary, place.month);
-    Clock {
-        seconds: s,
-        minutes: n,
-        hours: h,
-        weekday: w,
-        date: d,
-        month: m,
-        year: fields::byte_of(mode.binary, y),
+impl Time {
+    /// Whether the time can be turned into bytes: the weekday is 1 to 7, and the seconds lie within the century.
+    #[tactic(auto, unfolding(crate::specs::Times::is_time))]
+    pub fn has_bytes(self) -> bool
+        ensures { result ≡ is_time self }
+    {
+        (1..=7).contains(&self.weekday) && self.seconds < 3_155_760_000
     }
-}
 
-// The clock in seven bytes, in the order of the locations.
-fn clock_at(bytes: &[u8]) -> Clock
-    requires { length bytes.now ≡ 7 }
-    ensures { result ≡ clock_at bytes.now }
-{
-    Clock {
-        seconds: bytes[0],
-        minutes: bytes[1],
-        hours: bytes[2],
-        weekday: bytes[3],
-        date: bytes[4],
-        month: bytes[5],
-        year: bytes[6],
+    /// The time that a valid clock tells.
+    #[tactic(auto, using(fields::proofs::Laws::Hours::hour_below_24, crate::proofs::Laws::Days::day_below_36525, crate::proofs::Laws::Valid::valid_fact, crate::proofs::Laws::Valid::valid_date), unfolding(crate::specs::Times::time_of))]
+    fn of_clock(mode: Mode, clock: Clock) -> Self
+        requires { is_valid mode clock ≡ true }
+        ensures { result ≡ time_of mode clock }
+    {
+        let data = mode.data;
+        let day = day_of(
+            data.value(clock.year),
+            data.value(clock.month),
+            data.value(clock.date),
+        );
+        Time {
+            weekday: u32::from(data.value(clock.weekday)),
+            seconds: seconds_of(
+                day,
+                mode.hour(clock.hours),
+                data.value(clock.minutes),
+                data.value(clock.seconds),
+            ),
+        }
     }
-}
 
-// Writes the clock into seven bytes.
-#[tactic(auto, using(crate::proofs::Laws::Code::seven_stores))]
-fn put_clock(bytes: &mut [u8], clock: Clock)
-    requires { length bytes.old ≡ 7 }
-    ensures { bytes.new ≡ bytes_of clock }
-{
-    bytes[0] = clock.seconds;
-    bytes[1] = clock.minutes;
-    bytes[2] = clock.hours;
-    bytes[3] = clock.weekday;
-    bytes[4] = clock.date;
-    bytes[5] = clock.month;
-    bytes[6] = clock.year;
-}
-
-// Fills a buffer with zeros.
-#[tactic(auto, using(crate::proofs::Laws::Code::cleared_more, crate::proofs::Laws::Code::cleared_all))]
-fn clear(bytes: &mut [u8])
-    ensures { bytes.new ≡ replicate (length bytes.old) 0 }
-{
-    let mut i = 0;
-    while i < bytes.len() {
-        bytes[i] = 0;
-        i += 1;
+    /// The clock that tells the time.
+    #[tactic(auto, using(crate::proofs::Laws::Code::date_fits, crate::proofs::Laws::Days::year_starts_before, crate::proofs::Laws::Days::day_in_year, crate::proofs::Laws::Valid::time_fact), unfolding(crate::specs::Times::clock_of))]
+    fn clock(self, mode: Mode) -> Clock
+        requires { is_time self ≡ true }
+        ensures { result ≡ clock_of mode self }
+    {
+        let data = mode.data;
+        let day = (self.seconds / 86_400) as u32;
+        let year = year_of(day);
+        let (month, date) = place_of(year % 4 == 0, day - days_before_year(year));
+        Clock {
+            seconds: data.byte((self.seconds % 60) as u8),
+            minutes: data.byte((self.seconds / 60 % 60) as u8),
+            hours: mode.hour_byte((self.seconds / 3_600 % 24) as u8),
+            weekday: data.byte(self.weekday as u8),
+            date: data.byte(date),
+            month: data.byte(month),
+            year: data.byte(year),
+        }
     }
 }
 
-// Turns seven clock bytes into a time.
+/// Turns seven clock bytes, lowest location first, into a time. Refused (`Refusal::Time`) where they are not seven, or no valid time.
 #[tactic(auto, unfolding(crate::specs::Calls::decoded))]
-pub fn decode(bytes: &[u8], mode: Mode) -> Decoded
+pub fn decode(bytes: &[u8], mode: Mode) -> Result<Time, Refusal>
     ensures { result ≡ decoded mode bytes.now }
 {
-    if bytes.len() != 7 {
-        return Decoded::Refused(Refusal::Time);
-    }
-    let clock = clock_at(bytes);
+    let Some(bytes) = bytes.as_array::<7>() else {
+        return Err(Refusal::Time);
+    };
+    let clock = Clock::from(*bytes);
     if is_valid(mode, clock) {
-        return Decoded::Valid(time_of(mode, clock));
+        Ok(Time::of_clock(mode, clock))
+    } else {
+        Err(Refusal::Time)
     }
-    Decoded::Refused(Refusal::Time)
 }
 
-// Turns a time into seven clock bytes, or fills the buffer with zeros.
+/// Turns a time into seven clock bytes, lowest location first. Refused (`Refusal::Time`) where the buffer has not seven
+/// bytes or the time has none; the whole buffer then becomes zeros.
 #[tactic(auto, unfolding(crate::specs::Calls::encoded))]
-pub fn encode(bytes: &mut [u8], time: Time, mode: Mode) -> Encoded
-    ensures { encoding_of result bytes.new ≡ encoded mode time bytes.old }
+pub fn encode(bytes: &mut [u8], time: Time, mode: Mode) -> Result<(), Refusal>
+    ensures answer { result ≡ (encoded mode time bytes.old).answer }
+    ensures bytes { bytes.new ≡ (encoded mode time bytes.old).bytes }
 {
-    if bytes.len() != 7 {
-        clear(bytes);
-        return Encoded::Refused(Refusal::Time);
+    if bytes.len() == 7 && time.has_bytes() {
+        bytes.copy_from_slice(&<[u8; 7]>::from(time.clock(mode)));
+        Ok(())
+    } else {
+        bytes.fill(0);
+        Err(Refusal::Time)
     }
-    if is_time(time) {
-        put_clock(bytes, clock_of(mode, time));
-        return Encoded::Done;
-    }
-    clear(bytes);
-    Encoded::Refused(Refusal::Time)
 }
+
+/// The starred plate-room examples: each row of the table in specs/Examples holds, by computation.
+#[tactic(auto, using(crate::proofs::Examples::starred_examples_hold))]
+pub fn starred_examples_hold()
+    ensures { AllSay starred }
+{}

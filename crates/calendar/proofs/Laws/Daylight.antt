@@ -32,9 +32,9 @@ spring_goes_to_three m used c s = rw s
 pub spring_is_no_repeat : (m : Mode) (used : Bool) (c : Clock) → springs m c ≡ true → repeats m used c ≡ false
 unfolding springs repeats
 spring_is_no_repeat m used c s =
-    let april = eqb-true c.month (byte_of m.binary 4) (and_left (eqb c.month (byte_of m.binary 4)) _ (and_right (at_change m c) _ s)) in
-    let apart = byte_in_order m.binary {x = 4} {y = 10} (omega arith) in
-    let not-october = ne_eqb c.month (byte_of m.binary 10) (omega arith) in
+    let april = eqb-true c.month (byte_of m.data 4) (and_left (eqb c.month (byte_of m.data 4)) _ (and_right (at_change m c) _ s)) in
+    let apart = byte_in_order m.data {x = 4} {y = 10} (omega arith) in
+    let not-october = ne_eqb c.month (byte_of m.data 10) (omega arith) in
     rw (and_left (at_change m c) _ s, not-october)
 
 pub repeat_goes_to_one : (m : Mode) (used : Bool) (c : Clock) → repeats m used c ≡ true → advance m true used c ≡ record { clock = at_hour m 1 c; used = true }
@@ -59,11 +59,11 @@ date_stays : (m : Mode) (c : Clock) → eqb (date_step m c).byte c.date ≡ not 
 date_stays m c = go (hours_step m c).carries
   where
     last : ℕ
-    last = last_day_of m.binary c.month c.year
+    last = last_day_of m.data c.month c.year
 
-    go : (carried : Bool) → eqb (step m.binary 1 last carried c.date).byte c.date ≡ not carried
-    go true = ne_eqb _ _ (step_moves m.binary 1 last c.date (omega (arith, last_day_of_is_28_to_31 m.binary c.month c.year)))
-    go false = eq-eqb _ _ (step_rests m.binary 1 last c.date)
+    go : (carried : Bool) → eqb (step m.data 1 last carried c.date).byte c.date ≡ not carried
+    go true = ne_eqb _ _ (step_moves m.data 1 last c.date (omega (arith, last_day_of_is_28_to_31 m.data c.month c.year)))
+    go false = eq-eqb _ _ (step_rests m.data 1 last c.date)
 
 same_date : (used : Bool) (n : ℕ) → used ≡ used && eqb n n
 same_date true n = sym (eq-eqb n n refl)

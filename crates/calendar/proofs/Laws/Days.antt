@@ -11,6 +11,7 @@ use lib.ListN.{length, get_or}
 use borrow.Author.Tests.{leb-true, eqb-true, eqb-false}
 use Rattle.cases.proofs.Tests.{either, and_left, and_right}
 use Rattle.fields.proofs.Laws.Ranges.{range_fact}
+use Rattle.fields.specs.declared.DataMode.{DataMode}
 use Rattle.fields.specs.Bytes.{value_of, in_range}
 use Rattle.calendar.specs.Days.{last_days, last_day, is_leap, last_day_of}
 
@@ -43,12 +44,12 @@ pub last_day_is_28_to_31 : (leap : Bool) (month : ℕ) → 1 ≤ month → month
 last_day_is_28_to_31 leap month a b = month_is_28_to_31 leap (month - 1) (omega arith)
 
 -- whatever the bytes are
-pub last_day_of_is_28_to_31 : (binary : Bool) (month year : ℕ) → (28 ≤ last_day_of binary month year) × (last_day_of binary month year ≤ 31)
+pub last_day_of_is_28_to_31 : (mode : DataMode) (month year : ℕ) → (28 ≤ last_day_of mode month year) × (last_day_of mode month year ≤ 31)
 unfolding last_day_of
-last_day_of_is_28_to_31 binary month year = go (either (in_range binary 1 12 month))
+last_day_of_is_28_to_31 mode month year = go (either (in_range mode 1 12 month))
   where
-    go : (in_range binary 1 12 month ≡ true) ⊎ (in_range binary 1 12 month ≡ false) → (28 ≤ last_day_of binary month year) × (last_day_of binary month year ≤ 31)
-    go (inl e) = let r = range_fact binary 1 12 month e in rw e (last_day_is_28_to_31 (is_leap binary year) (value_of binary month) r.low r.high)
+    go : (in_range mode 1 12 month ≡ true) ⊎ (in_range mode 1 12 month ≡ false) → (28 ≤ last_day_of mode month year) × (last_day_of mode month year ≤ 31)
+    go (inl e) = let r = range_fact mode 1 12 month e in rw e (last_day_is_28_to_31 (is_leap mode year) (value_of mode month) r.low r.high)
     go (inr e) = rw e (omega arith)
 
 -- ---- the table that the code reads

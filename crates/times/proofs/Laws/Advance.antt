@@ -22,35 +22,35 @@ use Rattle.times.proofs.Laws.RoundTrip.{told_timely}
 
 -- every field's step, at a valid time
 record Fields (m : Mode) (c : Clock) : Type 0 where
-  seconds : Adds m.binary 0 59 true c.seconds
-  minutes : Adds m.binary 0 59 (seconds_step m c).carries c.minutes
+  seconds : Adds m.data 0 59 true c.seconds
+  minutes : Adds m.data 0 59 (seconds_step m c).carries c.minutes
   hours : HourAdds m (minutes_step m c).carries c.hours
-  weekday : Adds m.binary 1 7 (hours_step m c).carries c.weekday
-  date : Adds m.binary 1 (last_day_of m.binary c.month c.year) (hours_step m c).carries c.date
-  month : Adds m.binary 1 12 (date_step m c).carries c.month
-  year : Adds m.binary 0 99 (month_step m c).carries c.year
+  weekday : Adds m.data 1 7 (hours_step m c).carries c.weekday
+  date : Adds m.data 1 (last_day_of m.data c.month c.year) (hours_step m c).carries c.date
+  month : Adds m.data 1 12 (date_step m c).carries c.month
+  year : Adds m.data 0 99 (month_step m c).carries c.year
 
 fields_add : (m : Mode) (c : Clock) → Valid m c → Fields m c
 fields_add m c v =
-    let l = last_day_of_is_28_to_31 m.binary c.month c.year in
+    let l = last_day_of_is_28_to_31 m.data c.month c.year in
     record {
-      seconds = step_adds m.binary 0 59 _ c.seconds (omega arith) v.seconds;
-      minutes = step_adds m.binary 0 59 _ c.minutes (omega arith) v.minutes;
+      seconds = step_adds m.data 0 59 _ c.seconds (omega arith) v.seconds;
+      minutes = step_adds m.data 0 59 _ c.minutes (omega arith) v.minutes;
       hours = hour_step_adds m _ c.hours v.hours;
-      weekday = step_adds m.binary 1 7 _ c.weekday (omega arith) v.weekday;
-      date = step_adds m.binary 1 _ _ c.date (omega arith) v.date;
-      month = step_adds m.binary 1 12 _ c.month (omega arith) v.month;
-      year = step_adds m.binary 0 99 _ c.year (omega arith) v.year;
+      weekday = step_adds m.data 1 7 _ c.weekday (omega arith) v.weekday;
+      date = step_adds m.data 1 _ _ c.date (omega arith) v.date;
+      month = step_adds m.data 1 12 _ c.month (omega arith) v.month;
+      year = step_adds m.data 0 99 _ c.year (omega arith) v.year;
     }
 
 turns : (m : Mode) (c : Clock) → Valid m c
-    → Turn (value_of m.binary c.year) (value_of m.binary c.month) (value_of m.binary c.date)
-    (value_of m.binary (year_step m c).byte) (value_of m.binary (month_step m c).byte) (value_of m.binary (date_step m c).byte)
+    → Turn (value_of m.data c.year) (value_of m.data c.month) (value_of m.data c.date)
+    (value_of m.data (year_step m c).byte) (value_of m.data (month_step m c).byte) (value_of m.data (date_step m c).byte)
     (hours_step m c).carries (date_step m c).carries (month_step m c).carries (year_step m c).carries
 turns m c v =
     let f = fields_add m c v in
-    let l = last_day_by_numbers m.binary c.month c.year v.month v.year in
-    let e : last_day (leap_year (value_of m.binary c.year)) (value_of m.binary c.month) ≡ last_day_of m.binary c.month c.year + 1 - 1 = omega arith in
+    let l = last_day_by_numbers m.data c.month c.year v.month v.year in
+    let e : last_day (leap_year (value_of m.data c.year)) (value_of m.data c.month) ≡ last_day_of m.data c.month c.year + 1 - 1 = omega arith in
     record {
       old = valid_date m c v;
       year = f.year.within.high;
@@ -58,7 +58,7 @@ turns m c v =
       december = f.month.within.high;
       first = f.date.within.low;
       last = omega (arith, f.date.within.high);
-      date_sum = ap (λ (n : ℕ). value_of m.binary (date_step m c).byte + n * carry_of (date_step m c).carries) e ∙ f.date.sum;
+      date_sum = ap (λ (n : ℕ). value_of m.data (date_step m c).byte + n * carry_of (date_step m c).carries) e ∙ f.date.sum;
       month_sum = f.month.sum;
       year_sum = f.year.sum;
     }
@@ -67,7 +67,7 @@ pub second_valid : (m : Mode) (c : Clock) → Valid m c → Valid m (one_second_
 unfolding one_second_on
 second_valid m c v =
     let f = fields_add m c v in
-    let l = last_day_by_numbers m.binary (month_step m c).byte (year_step m c).byte f.month.within f.year.within in
+    let l = last_day_by_numbers m.data (month_step m c).byte (year_step m c).byte f.month.within f.year.within in
     record {
       seconds = f.seconds.within;
       minutes = f.minutes.within;
@@ -106,9 +106,9 @@ second_told m c v =
     let o' = hour_below_24 m (hours_step m c).byte f.hours.within in
     let w =
     midnight (seconds_of m c) (day_number m c)
-    ((hour_of m c.hours * 60 + value_of m.binary c.minutes) * 60 + value_of m.binary c.seconds)
-    ((hour_of m (hours_step m c).byte * 60 + value_of m.binary (minutes_step m c).byte) * 60 + value_of m.binary (seconds_step m c).byte)
-    (value_of m.binary c.weekday) (value_of m.binary (weekday_step m c).byte) (hours_step m c).carries (weekday_step m c).carries
+    ((hour_of m c.hours * 60 + value_of m.data c.minutes) * 60 + value_of m.data c.seconds)
+    ((hour_of m (hours_step m c).byte * 60 + value_of m.data (minutes_step m c).byte) * 60 + value_of m.data (seconds_step m c).byte)
+    (value_of m.data c.weekday) (value_of m.data (weekday_step m c).byte) (hours_step m c).carries (weekday_step m c).carries
     (omega arith) (omega (arith, v.minutes.high, v.seconds.high)) (omega (arith, f.minutes.within.high, f.seconds.within.high))
     (omega (arith, f.seconds.sum, f.minutes.sum, f.hours.sum))
     v.weekday.low v.weekday.high f.weekday.within.low f.weekday.within.high f.weekday.sum

@@ -7,6 +7,8 @@ use native.Mathlib.Omega.{arith}
 use lib.Dec.{eqb}
 use borrow.Author.Tests.{eqb-true}
 use Rattle.fields.specs.declared.Mode.{Mode}
+use Rattle.fields.specs.declared.DataMode.{DataMode}
+use Rattle.fields.specs.declared.DataMode.TheVariants.{Bcd, Binary}
 use Rattle.fields.specs.Bytes.{value_of, byte_of}
 use Rattle.fields.specs.Hours.{hour_byte}
 use Rattle.cases.proofs.Tests.{either, and_left, and_right}
@@ -22,16 +24,16 @@ use Rattle.times.specs.Times.{is_valid, time_of, seconds_of, day_number}
 use Rattle.times.proofs.Laws.Valid.{Valid, valid_test, valid_fact}
 use Rattle.times.proofs.Laws.Advance.{second_valid}
 
-zero_in_range : (binary : Bool) (last : ℕ) → InRange binary 0 last 0 × (value_of binary 0 ≡ 0)
-zero_in_range true last = (byte_in_range true 0 last 0 (omega arith) (omega arith), refl)
-zero_in_range false last = (byte_in_range false 0 last 0 (omega arith) (omega arith), refl)
+zero_in_range : (mode : DataMode) (last : ℕ) → InRange mode 0 last 0 × (value_of mode 0 ≡ 0)
+zero_in_range Binary last = (byte_in_range Binary 0 last 0 (omega arith) (omega arith), refl)
+zero_in_range Bcd last = (byte_in_range Bcd 0 last 0 (omega arith) (omega arith), refl)
 
 -- a full hour of the day of a valid clock
 full_hour_valid : (m : Mode) (hour : ℕ) (c : Clock) → hour < 24 → Valid m c → Valid m (at_hour m hour c)
 full_hour_valid m hour c h v =
     record {
-      seconds = (zero_in_range m.binary 59).0;
-      minutes = (zero_in_range m.binary 59).0;
+      seconds = (zero_in_range m.data 59).0;
+      minutes = (zero_in_range m.data 59).0;
       hours = (hour_of_byte m hour h).1;
       weekday = v.weekday;
       month = v.month;
@@ -40,7 +42,7 @@ full_hour_valid m hour c h v =
     }
 
 full_hour_told : (m : Mode) (hour : ℕ) (c : Clock) → hour < 24 → seconds_of m (at_hour m hour c) ≡ (day_number m c * 24 + hour) * 3600
-full_hour_told m hour c h = let z = (zero_in_range m.binary 59).1 in rw ((hour_of_byte m hour h).0, z) (omega arith)
+full_hour_told m hour c h = let z = (zero_in_range m.data 59).1 in rw ((hour_of_byte m hour h).0, z) (omega arith)
 
 -- the clock is a second before two
 change_told : (m : Mode) (c : Clock) → at_change m c ≡ true → seconds_of m c ≡ (day_number m c * 24 + 1) * 3600 + 3599
@@ -48,9 +50,9 @@ change_told m c e =
     let e1 = and_right (eqb c.weekday 1) _ e in
     let e2 = and_right (eqb c.hours (hour_byte m 1)) _ e1 in
     let h = eqb-true c.hours (hour_byte m 1) (and_left (eqb c.hours (hour_byte m 1)) _ e1) in
-    let n = eqb-true c.minutes (byte_of m.binary 59) (and_left (eqb c.minutes (byte_of m.binary 59)) _ e2) in
-    let s = eqb-true c.seconds (byte_of m.binary 59) (and_right (eqb c.minutes (byte_of m.binary 59)) _ e2) in
-    rw (h, n, s, (hour_of_byte m 1 (omega arith)).0, value_of_byte m.binary 59) (omega arith)
+    let n = eqb-true c.minutes (byte_of m.data 59) (and_left (eqb c.minutes (byte_of m.data 59)) _ e2) in
+    let s = eqb-true c.seconds (byte_of m.data 59) (and_right (eqb c.minutes (byte_of m.data 59)) _ e2) in
+    rw (h, n, s, (hour_of_byte m 1 (omega arith)).0, value_of_byte m.data 59) (omega arith)
 
 -- ---- the laws
 
@@ -64,7 +66,7 @@ spring_skips_an_hour m used c e s =
     let t = change_told m c (and_left (at_change m c) _ s) in
     let f = full_hour_told m 3 c (omega arith) in
     let q : seconds_of m (at_hour m 3 c) ≡ seconds_of m c + 3601 = omega arith in
-    rw a (valid_test m _ (full_hour_valid m 3 c (omega arith) (valid_fact m c e)), λ i. record { weekday = value_of m.binary c.weekday; seconds = q i })
+    rw a (valid_test m _ (full_hour_valid m 3 c (omega arith) (valid_fact m c e)), λ i. record { weekday = value_of m.data c.weekday; seconds = q i })
 
 -- from 1:59:59 back to 1:00:00, on the same weekday
 pub repeat_goes_back : (m : Mode) (used : Bool) (c : Clock) → is_valid m c ≡ true → repeats m used c ≡ true
@@ -76,7 +78,7 @@ repeat_goes_back m used c e r =
     let t = change_told m c (and_left (at_change m c) _ r) in
     let f = full_hour_told m 1 c (omega arith) in
     let q : seconds_of m (at_hour m 1 c) + 3599 ≡ seconds_of m c = omega arith in
-    rw a (valid_test m _ (full_hour_valid m 1 c (omega arith) (valid_fact m c e)), λ i. record { weekday = value_of m.binary c.weekday; seconds = q i })
+    rw a (valid_test m _ (full_hour_valid m 1 c (omega arith) (valid_fact m c e)), λ i. record { weekday = value_of m.data c.weekday; seconds = q i })
 
 -- with daylight saving on or off, a valid clock stays valid
 pub advance_keeps_valid : (m : Mode) (dse used : Bool) (c : Clock) → is_valid m c ≡ true → is_valid m (advance m dse used c).clock ≡ true

@@ -26,28 +26,28 @@ made_valid m t o =
     let n : ℕ = t.seconds / 86400 in
     let d = day_has_date n (omega arith) in
     let l = last_day_is_28_to_31 (leap_year (year_of n)) (month_of n) d.january d.december in
-    let month = byte_in_range m.binary 1 12 (month_of n) d.january d.december in
-    let year = byte_in_range m.binary 0 99 (year_of n) (omega arith) d.year in
+    let month = byte_in_range m.data 1 12 (month_of n) d.january d.december in
+    let year = byte_in_range m.data 0 99 (year_of n) (omega arith) d.year in
     record {
-      seconds = byte_in_range m.binary 0 59 _ (omega arith) (omega arith);
-      minutes = byte_in_range m.binary 0 59 _ (omega arith) (omega arith);
+      seconds = byte_in_range m.data 0 59 _ (omega arith) (omega arith);
+      minutes = byte_in_range m.data 0 59 _ (omega arith) (omega arith);
       hours = (hour_of_byte m (t.seconds / 3600 % 24) (omega arith)).1;
-      weekday = byte_in_range m.binary 1 7 _ o.sunday o.saturday;
+      weekday = byte_in_range m.data 1 7 _ o.sunday o.saturday;
       month = month;
       year = year;
       date =
-          rw (last_day_by_numbers m.binary (byte_of m.binary (month_of n)) (byte_of m.binary (year_of n)) month year, value_of_byte m.binary (year_of n), value_of_byte m.binary (month_of n))
-          (byte_in_range m.binary 1 _ _ d.first d.last);
+          rw (last_day_by_numbers m.data (byte_of m.data (month_of n)) (byte_of m.data (year_of n)) month year, value_of_byte m.data (year_of n), value_of_byte m.data (month_of n))
+          (byte_in_range m.data 1 _ _ d.first d.last);
     }
 
 made_back : (m : Mode) (t : Time) → Timely t → time_of m (clock_of m t) ≡ t
 unfolding time_of clock_of
 made_back m t o =
     let n : ℕ = t.seconds / 86400 in
-    let w = value_of_byte m.binary t.weekday in
+    let w = value_of_byte m.data t.weekday in
     let s : seconds_of m (clock_of m t) ≡ t.seconds =
-    rw (value_of_byte m.binary (year_of n), value_of_byte m.binary (month_of n), value_of_byte m.binary (date_of n), day_of_its_date n)
-    (omega (arith, (hour_of_byte m (t.seconds / 3600 % 24) (omega arith)).0, value_of_byte m.binary (t.seconds / 60 % 60), value_of_byte m.binary (t.seconds % 60)))
+    rw (value_of_byte m.data (year_of n), value_of_byte m.data (month_of n), value_of_byte m.data (date_of n), day_of_its_date n)
+    (omega (arith, (hour_of_byte m (t.seconds / 3600 % 24) (omega arith)).0, value_of_byte m.data (t.seconds / 60 % 60), value_of_byte m.data (t.seconds % 60)))
     in
     λ i. record { weekday = w i; seconds = s i }
 
@@ -66,18 +66,18 @@ told_back m c v =
     let h = hour_below_24 m c.hours v.hours in
     let n : seconds_of m c / 86400 ≡ day_number m c = omega (arith, v.minutes.high, v.seconds.high) in
     let d = date_of_its_day _ _ _ (valid_date m c v) in
-    let s : seconds_of m c % 60 ≡ value_of m.binary c.seconds = omega (arith, v.seconds.high) in
-    let q : seconds_of m c / 60 ≡ (day_number m c * 24 + hour_of m c.hours) * 60 + value_of m.binary c.minutes = omega (arith, v.seconds.high) in
-    let n60 : seconds_of m c / 60 % 60 ≡ value_of m.binary c.minutes = rw q (omega (arith, v.minutes.high)) in
+    let s : seconds_of m c % 60 ≡ value_of m.data c.seconds = omega (arith, v.seconds.high) in
+    let q : seconds_of m c / 60 ≡ (day_number m c * 24 + hour_of m c.hours) * 60 + value_of m.data c.minutes = omega (arith, v.seconds.high) in
+    let n60 : seconds_of m c / 60 % 60 ≡ value_of m.data c.minutes = rw q (omega (arith, v.minutes.high)) in
     let p : seconds_of m c / 3600 ≡ day_number m c * 24 + hour_of m c.hours = omega (arith, v.minutes.high, v.seconds.high) in
     let h24 : seconds_of m c / 3600 % 24 ≡ hour_of m c.hours = rw p (omega arith) in
-    let es = ap (byte_of m.binary) s ∙ byte_of_value m.binary c.seconds v.seconds.digits in
-    let em = ap (byte_of m.binary) n60 ∙ byte_of_value m.binary c.minutes v.minutes.digits in
+    let es = ap (byte_of m.data) s ∙ byte_of_value m.data c.seconds v.seconds.digits in
+    let em = ap (byte_of m.data) n60 ∙ byte_of_value m.data c.minutes v.minutes.digits in
     let eh = ap (hour_byte m) h24 ∙ byte_of_hour m c.hours v.hours in
-    let ew = byte_of_value m.binary c.weekday v.weekday.digits in
-    let ed = ap (byte_of m.binary) (ap date_of n ∙ d.2) ∙ byte_of_value m.binary c.date v.date.digits in
-    let eo = ap (byte_of m.binary) (ap month_of n ∙ d.1) ∙ byte_of_value m.binary c.month v.month.digits in
-    let ey = ap (byte_of m.binary) (ap year_of n ∙ d.0) ∙ byte_of_value m.binary c.year v.year.digits in
+    let ew = byte_of_value m.data c.weekday v.weekday.digits in
+    let ed = ap (byte_of m.data) (ap date_of n ∙ d.2) ∙ byte_of_value m.data c.date v.date.digits in
+    let eo = ap (byte_of m.data) (ap month_of n ∙ d.1) ∙ byte_of_value m.data c.month v.month.digits in
+    let ey = ap (byte_of m.data) (ap year_of n ∙ d.0) ∙ byte_of_value m.data c.year v.year.digits in
     λ i. record { seconds = es i; minutes = em i; hours = eh i; weekday = ew i; date = ed i; month = eo i; year = ey i }
 
 -- ---- the laws, of the tests that the calls make

@@ -1,10 +1,11 @@
 -- A valid time: the facts, and the tests that tell them, of a clock and of a weekday with seconds.
 use mathlib.Core.Path.{◌≡◌}
-use mathlib.Core.Bool.{Bool, true}
+use mathlib.Core.Bool.{true}
 use Prim.Native.Nat.{ℕ, ◌≤◌, ◌<◌}
 use lib.Dec.{leb}
 use borrow.Author.Tests.{leb-true, le-leb, ltb-true, lt-ltb}
 use Rattle.fields.specs.declared.Mode.{Mode}
+use Rattle.fields.specs.declared.DataMode.{DataMode}
 use Rattle.fields.specs.Bytes.{value_of, in_range}
 use Rattle.fields.specs.Hours.{hour_in_range}
 use Rattle.cases.proofs.Tests.{and_left, and_right, and_both}
@@ -17,13 +18,13 @@ use Rattle.times.specs.Times.{century, is_valid, is_time}
 use Rattle.times.proofs.Laws.Days.{IsDate}
 
 pub record Valid (m : Mode) (c : Clock) : Type 0 where
-  pub seconds : InRange m.binary 0 59 c.seconds
-  pub minutes : InRange m.binary 0 59 c.minutes
+  pub seconds : InRange m.data 0 59 c.seconds
+  pub minutes : InRange m.data 0 59 c.minutes
   pub hours : HourInRange m c.hours
-  pub weekday : InRange m.binary 1 7 c.weekday
-  pub month : InRange m.binary 1 12 c.month
-  pub year : InRange m.binary 0 99 c.year
-  pub date : InRange m.binary 1 (last_day_of m.binary c.month c.year) c.date
+  pub weekday : InRange m.data 1 7 c.weekday
+  pub month : InRange m.data 1 12 c.month
+  pub year : InRange m.data 0 99 c.year
+  pub date : InRange m.data 1 (last_day_of m.data c.month c.year) c.date
 
 pub valid_test : (m : Mode) (c : Clock) → Valid m c → is_valid m c ≡ true
 unfolding is_valid
@@ -39,35 +40,35 @@ valid_test m c v =
 pub valid_fact : (m : Mode) (c : Clock) → is_valid m c ≡ true → Valid m c
 unfolding is_valid
 valid_fact m c e =
-    let e1 = and_right (in_range m.binary 0 59 c.seconds) _ e in
-    let e2 = and_right (in_range m.binary 0 59 c.minutes) _ e1 in
+    let e1 = and_right (in_range m.data 0 59 c.seconds) _ e in
+    let e2 = and_right (in_range m.data 0 59 c.minutes) _ e1 in
     let e3 = and_right (hour_in_range m c.hours) _ e2 in
-    let e4 = and_right (in_range m.binary 1 7 c.weekday) _ e3 in
-    let e5 = and_right (in_range m.binary 1 12 c.month) _ e4 in
+    let e4 = and_right (in_range m.data 1 7 c.weekday) _ e3 in
+    let e5 = and_right (in_range m.data 1 12 c.month) _ e4 in
     record {
-      seconds = range_fact _ 0 59 _ (and_left (in_range m.binary 0 59 c.seconds) _ e);
-      minutes = range_fact _ 0 59 _ (and_left (in_range m.binary 0 59 c.minutes) _ e1);
+      seconds = range_fact _ 0 59 _ (and_left (in_range m.data 0 59 c.seconds) _ e);
+      minutes = range_fact _ 0 59 _ (and_left (in_range m.data 0 59 c.minutes) _ e1);
       hours = hour_fact m _ (and_left (hour_in_range m c.hours) _ e2);
-      weekday = range_fact _ 1 7 _ (and_left (in_range m.binary 1 7 c.weekday) _ e3);
-      month = range_fact _ 1 12 _ (and_left (in_range m.binary 1 12 c.month) _ e4);
-      year = range_fact _ 0 99 _ (and_left (in_range m.binary 0 99 c.year) _ e5);
-      date = range_fact _ 1 _ _ (and_right (in_range m.binary 0 99 c.year) _ e5);
+      weekday = range_fact _ 1 7 _ (and_left (in_range m.data 1 7 c.weekday) _ e3);
+      month = range_fact _ 1 12 _ (and_left (in_range m.data 1 12 c.month) _ e4);
+      year = range_fact _ 0 99 _ (and_left (in_range m.data 0 99 c.year) _ e5);
+      date = range_fact _ 1 _ _ (and_right (in_range m.data 0 99 c.year) _ e5);
     }
 
 -- at valid month and year bytes the last day is that of the numbers
-pub last_day_by_numbers : (binary : Bool) (month year : ℕ) → InRange binary 1 12 month → InRange binary 0 99 year
-    → last_day_of binary month year ≡ last_day (leap_year (value_of binary year)) (value_of binary month)
+pub last_day_by_numbers : (mode : DataMode) (month year : ℕ) → InRange mode 1 12 month → InRange mode 0 99 year
+    → last_day_of mode month year ≡ last_day (leap_year (value_of mode year)) (value_of mode month)
 unfolding last_day_of
-last_day_by_numbers binary month year r s = rw (range_test binary 1 12 month r, range_test binary 0 99 year s)
+last_day_by_numbers mode month year r s = rw (range_test mode 1 12 month r, range_test mode 0 99 year s)
 
-pub valid_date : (m : Mode) (c : Clock) → Valid m c → IsDate (value_of m.binary c.year) (value_of m.binary c.month) (value_of m.binary c.date)
+pub valid_date : (m : Mode) (c : Clock) → Valid m c → IsDate (value_of m.data c.year) (value_of m.data c.month) (value_of m.data c.date)
 valid_date m c v =
     record {
       year = v.year.high;
       january = v.month.low;
       december = v.month.high;
       first = v.date.low;
-      last = rw (← last_day_by_numbers m.binary c.month c.year v.month v.year) v.date.high;
+      last = rw (← last_day_by_numbers m.data c.month c.year v.month v.year) v.date.high;
     }
 
 -- ---- a weekday and seconds

@@ -1,18 +1,20 @@
 use native.Mathlib.Omega.{arith}
-use Rattle.times.proofs.Laws.Code.{reached_next, reached_month, reached_date, reached_small}
+use Rattle.times.proofs.Laws.Code.{reached_first, reached_month, reached_date, reached_last}
 use Rattle.times.proofs.place_of.Goals as goal
 
-pub last_day-last-requires-in-loop-last : goal.last_day-last-requires-in-loop-last
-last_day-last-requires-in-loop-last c = let r = reached_next _ _ _ _ _ c.requires c.loop-last.invariant.0 c.loop-last.invariant.1 c.loop-last-test.true in (omega arith, omega arith)
+pub loop-month-init : goal.loop-month-init
+loop-month-init c = reached_first c.args.leap c.args.day
 
-pub loop-last-preserved : goal.loop-last-preserved
-loop-last-preserved c = (reached_next _ _ _ _ _ c.requires c.loop-last.invariant.0 c.loop-last.invariant.1 c.loop-last-test.true, c.last_day-last-in-loop-last.ensures)
+pub returns-then-left-last : goal.returns-then-left-last
+returns-then-left-last c =
+    let e = c.from-last.ensures in
+    (reached_month _ _ _ _ c.last_day.result c.loop-month.invariant c.last_day.ensures (omega arith), reached_date _ _ _ _ c.last_day.result c.loop-month.invariant c.last_day.ensures (omega arith))
 
-pub overflow_cast-result : goal.overflow_cast-result
-overflow_cast-result c = let s = reached_small _ _ _ _ _ c.loop-last.invariant.0 c.loop-last.invariant.1 c.loop-last-test.false in omega arith
+pub overflow_cast-result-2 : goal.overflow_cast-result-2
+overflow_cast-result-2 c = let r = reached_last _ _ _ _ c.requires c.loop-month.invariant c.loop-month-test.false in omega (arith, r.2)
 
 pub overflow_add-result-2 : goal.overflow_add-result-2
-overflow_add-result-2 c = let s = reached_small _ _ _ _ _ c.loop-last.invariant.0 c.loop-last.invariant.1 c.loop-last-test.false in omega arith
+overflow_add-result-2 c = let r = reached_last _ _ _ _ c.requires c.loop-month.invariant c.loop-month-test.false in omega (arith, r.2)
 
 pub returns : goal.returns
-returns c = (reached_month _ _ _ _ _ c.loop-last.invariant.0 c.loop-last.invariant.1 c.loop-last-test.false, reached_date _ _ _ _ _ c.loop-last.invariant.0 c.loop-last.invariant.1 c.loop-last-test.false)
+returns c = let r = reached_last _ _ _ _ c.requires c.loop-month.invariant c.loop-month-test.false in (r.0, r.1)
