@@ -6,6 +6,7 @@ ghost use Rattle.divider.specs.Divider.{rose, at_zero, at_end};
 ghost use Rattle.registers.specs.Bits.{base_of, rate_of, set_on};
 ghost use Rattle.ticks.specs.Tick.{updated, tick};
 
+use fields::Mode;
 use registers::Regs;
 
 /// The update itself: the clock goes on, UF is set, and AF where the alarm matches the new time; nothing is pending any more. No flag rises while RESET
@@ -15,8 +16,8 @@ fn update(regs: &mut Regs)
     ensures { regs.new ≡ updated regs.old }
 {
     let dse = regs.b % 2 == 1;
-    let mode = fields::mode_of(regs.b);
-    let next = calendar::update(mode, dse, regs.used, regs.alarm, regs.clock);
+    let mode = Mode::of_register_b(regs.b);
+    let next = regs.clock.updated(mode, dse, regs.used, regs.alarm);
     regs.clock = next.clock;
     regs.used = next.used;
     regs.uf |= !regs.resetlow;
