@@ -14,6 +14,7 @@ struct Hex(u8);
 impl fmt::Display for Hex {
     ghost output = { λ byte. Some (hex byte.0 []) };
 
+    #[tactic(auto, using(crate::proofs::TextLaws::two_digits))]
     fn fmt<W: fmt::Write>(&self, f: &mut fmt::Formatter<W>) -> fmt::Result {
         let Hex(byte) = *self;
         write!(f, "{byte:02X}")
