@@ -8,7 +8,18 @@ use bench::Bench;
 use map::*;
 use std::io;
 
-// The parts of the power-up, in their order.
+fn main(rt: HostRuntime) -> io::Result<()> {
+    let mut bench = Bench::new(&rt);
+    bench.locations()?;
+    bench.reset()?;
+    bench.power_sense()?;
+    bench.updates()?;
+    bench.no_updates()?;
+    bench.periodic()?;
+    bench.alarm()?;
+    bench.square_wave()
+}
+
 impl<R: Print> Bench<R> {
     // ---- every location
 
@@ -25,59 +36,69 @@ impl<R: Print> Bench<R> {
 
     // ---- the pins
 
-    // All is refused while RESET is low. After it the enables are 0 and the rest is as it was.
+    /// On the chip as `locations` leaves it, all is refused while RESET is low. After it the enables are 0 and the rest is as it was.
     fn reset(&mut self) -> io::Result<()> {
         println!(self.rt; "\nRESET on a chip with all enables on")?;
         self.set_up(REGISTER_B, PIE | AIE | UIE | SQWE | DM | HOURS_24);
         self.get_row(0)?;
-        self.show_pins(false, true)?;
+        self.show_pins(LOW, HIGH)?;
         self.fill(0x55)?;
-        self.show_pins(true, true)?;
+        self.show_pins(HIGH, HIGH)?;
         self.get_all()
     }
 
     fn power_sense(&mut self) -> io::Result<()> {
         println!(self.rt; "\nPower sense and VRT on a fresh chip, D read twice")?;
-        self.fresh();
-        self.valid_time()?;
-        self.show_pins(true, false)?;
-        self.valid_time()?;
-        self.show_pins(true, true)?;
-        self.valid_time()
+        self.fresh_chip();
+        self.get_d_twice()?;
+        self.show_pins(HIGH, LOW)?;
+        self.get_d_twice()?;
+        self.show_pins(HIGH, HIGH)?;
+        self.get_d_twice()
     }
 
     // ---- ticks
 
-    // The first two updates after release, and the closed window before each.
+    /// The first two updates after release, and the closed window before each.
     fn updates(&mut self) -> io::Result<()> {
         println!(self.rt; "\n32.768 kHz from release, SET 0")?;
-        self.ready(HOURS_24);
+        self.fresh_chip_with_b(HOURS_24);
         self.start(BASE_32_768_HZ);
         self.look_at(&[16_383, 16_384, 16_391, 16_392])?;
         self.put_in_window()?;
         self.look_at(&[16_456, 16_457, 49_152, 49_224, 49_225])?;
         println!(self.rt; "tick by tick")?;
-        self.ready(HOURS_24);
+        self.fresh_chip_with_b(HOURS_24);
         self.start(BASE_32_768_HZ);
         self.next_flag()?;
         self.next_flag()
     }
 
-    // The held divider stands still, and SET 1 lets no update begin.
+    /// Writes the first and the last clock location, A and a RAM location.
+    fn put_in_window(&mut self) -> io::Result<()> {
+        print!(self.rt; "  writes to 00 09 0a 0e: ")?;
+        self.put(SECONDS, 0x30)?;
+        self.put(YEAR, 0x79)?;
+        self.put(REGISTER_A, BASE_32_768_HZ)?;
+        self.put(FIRST_OF_RAM, 0xA5)?;
+        println!(self.rt)
+    }
+
+    /// The held divider stands still, and SET 1 lets no update begin.
     fn no_updates(&mut self) -> io::Result<()> {
         println!(self.rt; "\nDivider held, then SET 1")?;
-        self.ready(HOURS_24);
+        self.fresh_chip_with_b(HOURS_24);
         self.look_at(&[65_536])?;
         self.set_up(REGISTER_B, SET | HOURS_24);
         self.start(BASE_32_768_HZ);
         self.look_at(&[16_457])
     }
 
-    // Runs on the slowest base to the wrap, where an update becomes pending, and goes over to the fastest base at count 0.
-    // There PF rises by rate 1, and a run of too many ticks makes none.
+    /// Runs on the slowest base to the wrap, where an update becomes pending, and goes over to the fastest base at count 0. There PF is the next flag;
+    /// a run of too many ticks makes none.
     fn periodic(&mut self) -> io::Result<()> {
         println!(self.rt; "\n32.768 kHz to count 0")?;
-        self.ready(HOURS_24);
+        self.fresh_chip_with_b(HOURS_24);
         self.start(BASE_32_768_HZ);
         self.look_at(&[16_384])?;
         println!(self.rt; "4.194304 MHz, rate 1: the pending update is dropped")?;
@@ -92,11 +113,12 @@ impl<R: Print> Bench<R> {
 
     // ---- interrupts and the square wave
 
-    // An alarm at second 02 of any minute, first with AIE, then with UIE.
+    /// An alarm at second 02 of any minute, first with AIE, then with UIE.
     fn alarm(&mut self) -> io::Result<()> {
         println!(self.rt; "\nAlarm at second 02, AIE")?;
-        self.ready(AIE | HOURS_24);
+        self.fresh_chip_with_b(AIE | HOURS_24);
         self.set_up(SECONDS_ALARM, 0x02);
+        // An alarm byte from C0 to FF matches whatever the clock says.
         self.set_up(MINUTES_ALARM, 0xC0);
         self.set_up(HOURS_ALARM, 0xFF);
         self.start(BASE_32_768_HZ);
@@ -105,15 +127,15 @@ impl<R: Print> Bench<R> {
         self.set_up(REGISTER_B, UIE | HOURS_24);
         self.look_at(&[81_993])?;
         println!(self.rt; "RESET low for one update")?;
-        self.set_pins(false, true);
+        self.set_pins(LOW, HIGH);
         self.look_at(&[114_761])?;
-        self.set_pins(true, true);
+        self.set_pins(HIGH, HIGH);
         self.look_at(&[114_761])
     }
 
     fn square_wave(&mut self) -> io::Result<()> {
         println!(self.rt; "\nSquare wave on 32.768 kHz: rate 3, rate 4, rate 0, SQWE 0")?;
-        self.ready(SQWE | HOURS_24);
+        self.fresh_chip_with_b(SQWE | HOURS_24);
         for rate in [3, 4, 0] {
             self.set_up(REGISTER_A, BASE_32_768_HZ | rate);
             self.wave()?;
@@ -122,16 +144,4 @@ impl<R: Print> Bench<R> {
         self.set_up(REGISTER_B, HOURS_24);
         self.wave()
     }
-}
-
-fn main(rt: HostRuntime) -> io::Result<()> {
-    let mut bench = Bench::new(&rt);
-    bench.locations()?;
-    bench.reset()?;
-    bench.power_sense()?;
-    bench.updates()?;
-    bench.no_updates()?;
-    bench.periodic()?;
-    bench.alarm()?;
-    bench.square_wave()
 }
