@@ -116,7 +116,7 @@ impl Chip {
     }
 
     /// Makes a number of ticks, 0 to 65,536. More are refused with `Ticks`, and none is made.
-    #[tactic(auto, unfolding(crate::specs::Calls::run, crate::specs::Chips::ticks))]
+    #[tactic(auto, using(crate::proofs::Laws::Run::ticks_work_on_registers), unfolding(crate::specs::Calls::run))]
     pub fn run(&mut self, count: u32) -> Result<(), Refusal>
         ensures answer { result ≡ (run self.old count).answer }
         ensures chip { self.new ≡ (run self.old count).chip }
@@ -124,9 +124,7 @@ impl Chip {
         if count > MOST_TICKS {
             return Err(Refusal::Ticks);
         }
-        for _ in 0..count {
-            self.tick();
-        }
+        ticks::ticks(&mut self.regs, count);
         Ok(())
     }
 }

@@ -90,7 +90,7 @@ impl DataMode {
     pub fn is_in_range(self, first: u8, last: u8, byte: u8) -> bool
         ensures { result ≡ in_range self first last byte }
     {
-        self.has_digits(byte) && (first..=last).contains(&self.value(byte))
+        self.has_digits(byte) & (first..=last).contains(&self.value(byte))
     }
 
     /// A field that goes from `first` to `last`, after an update that carries into it or not.

@@ -36,10 +36,13 @@ fn tail_of(regs: &Regs) -> [u8; 8]
 
 /// The record writer: fills a part of 72 bytes with the chip's record.
 #[tactic(auto, unfolding(crate::specs::Record::record_of, chip::specs::Chips::locations))]
+#[inline(always)]
 pub fn store(chip: &Chip, part: &mut [u8])
     requires { length part.old ≡ record_size }
     ensures { part.new ≡ record_of chip.now }
 {
+    // Out of a copy of its own, the RAM goes over in four moves; out of the lent chip it would go byte by byte.
+    let chip = *chip;
     let (registers, rest) = part.split_at_mut(14);
     let (ram, tail) = rest.split_at_mut(50);
     registers.copy_from_slice(&chip.regs.register_bytes());
@@ -194,6 +197,7 @@ fn keeps_rules(bytes: &[u8; 72]) -> bool
 
 /// The chip that was saved as these bytes. Refused with `Length` where they are not 72, then with `Rules` where they break a record rule.
 #[tactic(auto, unfolding(crate::specs::Calls::load))]
+#[inline(always)]
 pub fn load(input: &[u8]) -> Result<Chip, Refusal>
     ensures { result ≡ load input.now }
 {

@@ -1,11 +1,12 @@
 //! One tick of the registers.
 #![tactic(auto)]
 
-ghost use Rattle.std.specs.Prelude.{◌≡◌, ◌&&◌, not};
+ghost use Rattle.std.specs.Prelude.{◌≡◌, ◌&&◌, not, Some};
 ghost use Rattle.divider.specs.Divider.{rose, at_zero, at_end};
 ghost use Rattle.registers.specs.Bits.{base_of, rate_of, set_on};
-ghost use Rattle.ticks.specs.Tick.{updated, tick};
+ghost use Rattle.ticks.specs.Tick.{updated, tick, ticks};
 
+use divider::Base;
 use fields::Mode;
 use registers::Regs;
 
@@ -26,11 +27,11 @@ fn update(regs: &mut Regs)
 }
 
 /// Whether the tap that the rate selects has just risen.
-fn tap_rises(regs: &Regs) -> bool
-    ensures { result ≡ rose (base_of regs.now.a) (rate_of regs.now.a) regs.now.divider }
+fn tap_rises(regs: &Regs, base: Base) -> bool
+    ensures { result ≡ rose (Some base) (rate_of regs.now.a) regs.now.divider }
 {
-    let rate = registers::rate_of(regs.a);
-    regs.divider.has_risen(regs.base(), rate)
+    regs.divider
+        .has_risen(Some(base), registers::rate_of(regs.a))
 }
 
 /// Whether the count has reached 0 with SET 0.
@@ -41,25 +42,48 @@ fn starts_waiting(regs: &Regs) -> bool
 }
 
 /// Whether a pending update takes place now.
-fn is_due(regs: &Regs) -> bool
-    ensures { result ≡ (regs.now.pending && at_end (base_of regs.now.a) regs.now.divider) }
+fn is_due(regs: &Regs, base: Base) -> bool
+    ensures { result ≡ (regs.now.pending && at_end (Some base) regs.now.divider) }
 {
-    regs.pending && regs.divider.is_at_end(regs.base())
+    regs.pending && regs.divider.is_at_end(Some(base))
 }
 
-/// One tick: the count, PF, pending, the update. Where the divider is held, it does nothing.
+/// One tick of the base on which the divider runs: the count, PF, pending, the update.
 #[tactic(auto, unfolding(crate::specs::Tick::counted, crate::specs::Tick::flagged, crate::specs::Tick::awaiting, crate::specs::Tick::finished, crate::specs::Tick::tick))]
+fn tick_on(regs: &mut Regs, base: Base)
+    requires { base_of regs.old.a ≡ Some base }
+    ensures { regs.new ≡ tick regs.old }
+{
+    regs.divider.tick(Some(base));
+    regs.pf |= tap_rises(regs, base) & !regs.resetlow;
+    regs.pending |= starts_waiting(regs);
+    if is_due(regs, base) {
+        update(regs);
+    }
+}
+
+/// One tick. Where the divider is held, it does nothing.
+#[tactic(auto, unfolding(crate::specs::Tick::tick))]
 pub fn tick(regs: &mut Regs)
     ensures { regs.new ≡ tick regs.old }
 {
-    let base = regs.base();
-    if base.is_none() {
-        return;
+    if let Some(base) = regs.base() {
+        tick_on(regs, base);
     }
-    regs.divider.tick(base);
-    regs.pf |= tap_rises(regs) & !regs.resetlow;
-    regs.pending |= starts_waiting(regs);
-    if is_due(regs) {
-        update(regs);
+}
+
+/// A number of ticks, one after the other.
+#[tactic(auto, using(crate::proofs::Laws::Ticks::held_ticks_do_nothing), unfolding(crate::specs::Tick::ticks))]
+pub fn ticks(regs: &mut Regs, count: u32)
+    ensures { regs.new ≡ ticks count regs.old }
+{
+    // The base is asked for once: no tick changes it.
+    match regs.base() {
+        None => {}
+        Some(base) => {
+            for _ in 0..count {
+                tick_on(regs, base);
+            }
+        }
     }
 }

@@ -27,14 +27,18 @@ pub fn is_valid(mode: Mode, clock: Clock) -> bool
     ensures { result ≡ is_valid mode clock }
 {
     let data = mode.data;
-    let last = calendar::last_day_of(data, clock.month, clock.year);
+    // Without a branch after each test, which would cost a decode a fifth of its time.
     data.is_in_range(0, 59, clock.seconds)
-        && data.is_in_range(0, 59, clock.minutes)
-        && mode.is_hour(clock.hours)
-        && data.is_in_range(1, 7, clock.weekday)
-        && data.is_in_range(1, 12, clock.month)
-        && data.is_in_range(0, 99, clock.year)
-        && data.is_in_range(1, last, clock.date)
+        & data.is_in_range(0, 59, clock.minutes)
+        & mode.is_hour(clock.hours)
+        & data.is_in_range(1, 7, clock.weekday)
+        & data.is_in_range(1, 12, clock.month)
+        & data.is_in_range(0, 99, clock.year)
+        & data.is_in_range(
+            1,
+            calendar::last_day_of(data, clock.month, clock.year),
+            clock.date,
+        )
 }
 
 /// The days of a year before one of its months, 1 for January to 12.
@@ -117,6 +121,8 @@ impl Time {
         ensures { result ≡ time_of mode clock }
     {
         let data = mode.data;
+        // The time of day comes first, so that it is ready when the days have been added up.
+        let hour = mode.hour(clock.hours);
         let day = day_of(
             data.value(clock.year),
             data.value(clock.month),
@@ -126,7 +132,7 @@ impl Time {
             weekday: u32::from(data.value(clock.weekday)),
             seconds: seconds_of(
                 day,
-                mode.hour(clock.hours),
+                hour,
                 data.value(clock.minutes),
                 data.value(clock.seconds),
             ),
@@ -160,10 +166,10 @@ impl Time {
 pub fn decode(bytes: &[u8], mode: Mode) -> Result<Time, Refusal>
     ensures { result ≡ decoded mode bytes.now }
 {
-    let Some(bytes) = bytes.as_array::<7>() else {
+    let &[seconds, minutes, hours, weekday, date, month, year] = bytes else {
         return Err(Refusal::Time);
     };
-    let clock = Clock::from(*bytes);
+    let clock = Clock::from([seconds, minutes, hours, weekday, date, month, year]);
     if is_valid(mode, clock) {
         Ok(Time::of_clock(mode, clock))
     } else {
