@@ -11,7 +11,7 @@ ghost use Rattle.calendar.specs.Update.{matches_byte, alarm_matches, update};
 use fields::{DataMode, Mode};
 
 /// The clock's locations 0, 2, 4, 6, 7, 8 and 9, as raw bytes: any byte may stand in any field.
-#[derive(Clone, Copy, Debug, PartialEq, Eq)]
+#[derive(Clone, Copy, Debug, Default, PartialEq, Eq)]
 pub struct Clock {
     /// Location 0: 0 to 59.
     pub seconds: u8,
@@ -30,7 +30,7 @@ pub struct Clock {
 }
 
 /// The alarm's locations 1, 3 and 5, as raw bytes: hex C0 and more stand for any byte.
-#[derive(Clone, Copy, Debug, PartialEq, Eq)]
+#[derive(Clone, Copy, Debug, Default, PartialEq, Eq)]
 pub struct Alarm {
     /// Location 1.
     pub seconds: u8,

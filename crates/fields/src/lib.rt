@@ -7,6 +7,12 @@ ghost use Rattle.fields.specs.Bytes.{value_of, byte_of, ordinary_next, has_digit
 ghost use Rattle.fields.specs.Hours.{hour_of, hour_byte, hour_in_range};
 ghost use Rattle.fields.specs.Steps.{step, half_day_step, hour_step};
 
+/// DM, bit 2 of register B: 1 for binary.
+const DM: u8 = 0x04;
+
+/// 24/12, bit 1 of register B: 1 for 24 hours.
+const HOURS_24: u8 = 0x02;
+
 /// How a byte of the clock stands for a number: bit 2 of register B, DM.
 #[derive(Clone, Copy, Debug, PartialEq, Eq)]
 pub enum DataMode {
@@ -149,12 +155,12 @@ impl Mode {
         ensures { result ≡ mode_of b }
     {
         Mode {
-            data: if b / 4 % 2 == 1 {
+            data: if cases::is_on(b, DM) {
                 DataMode::Binary
             } else {
                 DataMode::Bcd
             },
-            hours: if b / 2 % 2 == 1 {
+            hours: if cases::is_on(b, HOURS_24) {
                 HourMode::TwentyFour
             } else {
                 HourMode::Twelve

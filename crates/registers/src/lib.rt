@@ -9,8 +9,39 @@ ghost use Rattle.registers.specs.Access.{closed, access, write_access};
 ghost use Rattle.registers.specs.Calls.{fresh, after_read, write_a, set_rises, write_b, write_plain, written, with_pins};
 
 use calendar::{Alarm, Clock};
+use cases::is_on;
 use divider::{Base, Divider};
 use refusals::Refusal;
+
+// Register B, bits 7 to 3 and 0; bits 2 and 1 are the mode.
+
+/// SET: 1 lets no update begin.
+pub const SET: u8 = 0x80;
+/// PIE: PF interrupts.
+pub const PIE: u8 = 0x40;
+/// AIE: AF interrupts.
+pub const AIE: u8 = 0x20;
+/// UIE: UF interrupts.
+pub const UIE: u8 = 0x10;
+/// SQWE: lets the square wave out.
+pub const SQWE: u8 = 0x08;
+/// DSE: daylight saving.
+pub const DSE: u8 = 0x01;
+
+// Bit 7 of register A, and the bits of C and D.
+
+/// UIP: an update is pending.
+pub const UIP: u8 = 0x80;
+/// IRQF: a flag and its enable are both 1.
+pub const IRQF: u8 = 0x80;
+/// PF: the periodic flag.
+pub const PF: u8 = 0x40;
+/// AF: the alarm flag.
+pub const AF: u8 = 0x20;
+/// UF: the update-ended flag.
+pub const UF: u8 = 0x10;
+/// VRT: valid RAM and time.
+pub const VRT: u8 = 0x80;
 
 /// All of the chip but its user RAM. Register A is kept without UIP, and C and D as their bits, so that UIP and IRQF are what their rules say at every
 /// moment.
@@ -62,7 +93,7 @@ pub fn rate_of(a: u8) -> u8
 pub fn set_on(b: u8) -> bool
     ensures { result ≡ set_on b }
 {
-    b / 128 % 2 == 1
+    is_on(b, SET)
 }
 
 /// A bit of a register at its place: the place where it is on, else 0.
@@ -79,20 +110,8 @@ impl Regs {
         ensures { result ≡ fresh }
     {
         Regs {
-            clock: Clock {
-                seconds: 0,
-                minutes: 0,
-                hours: 0,
-                weekday: 0,
-                date: 0,
-                month: 0,
-                year: 0,
-            },
-            alarm: Alarm {
-                seconds: 0,
-                minutes: 0,
-                hours: 0,
-            },
+            clock: Clock::default(),
+            alarm: Alarm::default(),
             a: 0x60,
             b: 0x80,
             pf: false,
@@ -121,8 +140,8 @@ impl Regs {
     pub fn irqf(&self) -> bool
         ensures { result ≡ irqf self.now }
     {
-        (self.b / 64 % 2 == 1 && self.pf)
-            || ((self.b / 32 % 2 == 1 && self.af) || (self.b / 16 % 2 == 1 && self.uf))
+        (is_on(self.b, PIE) && self.pf)
+            || ((is_on(self.b, AIE) && self.af) || (is_on(self.b, UIE) && self.uf))
     }
 
     /// Whether the square wave is high: with SQWE 1, where the bit of the count that the rate selects is 1.
@@ -130,7 +149,7 @@ impl Regs {
     pub fn sqw(&self) -> bool
         ensures { result ≡ sqw self.now }
     {
-        self.b / 8 % 2 == 1 && self.divider.wave(self.base(), rate_of(self.a))
+        is_on(self.b, SQWE) && self.divider.wave(self.base(), rate_of(self.a))
     }
 
     // ---- the locations
@@ -140,7 +159,7 @@ impl Regs {
     fn register_a(&self) -> u8
         ensures { result ≡ register_a self.now }
     {
-        placed(self.pending, 128) + self.a % 128
+        placed(self.pending, UIP) + self.a % 128
     }
 
     /// Register C: IRQF, PF, AF and UF, from bit 7 down.
@@ -148,8 +167,8 @@ impl Regs {
     fn register_c(&self) -> u8
         ensures { result ≡ register_c self.now }
     {
-        let flags = placed(self.pf, 64) + (placed(self.af, 32) + placed(self.uf, 16));
-        placed(self.irqf(), 128) + flags
+        let flags = placed(self.pf, PF) + (placed(self.af, AF) + placed(self.uf, UF));
+        placed(self.irqf(), IRQF) + flags
     }
 
     /// The bytes at locations 0 to 13: clock and alarm in turns, then A to D.
@@ -173,7 +192,7 @@ impl Regs {
             self.register_a(),
             self.b,
             self.register_c(),
-            placed(self.vrt, 128),
+            placed(self.vrt, VRT),
         ]
     }
 

@@ -7,6 +7,7 @@ ghost use Rattle.saved.specs.Rules.{seconds_bit_7_rule, no_test_pattern_rule, ke
 ghost use Rattle.saved.specs.Calls.{record_size, load, save};
 
 use calendar::{Alarm, Clock};
+use cases::is_on;
 use chip::Chip;
 use divider::Divider;
 use refusals::Refusal;
@@ -15,14 +16,26 @@ use registers::Regs;
 /// The bytes of a saved chip.
 pub const RECORD_SIZE: usize = 72;
 
+// The bits of byte 67.
+
+/// An update is pending.
+const PENDING: u8 = 0x01;
+/// The pin RESET is low.
+const RESET_LOW: u8 = 0x02;
+/// The pin PS is low.
+const PS_LOW: u8 = 0x04;
+/// This Sunday's repeated hour has been used.
+const USED: u8 = 0x08;
+
 // ---- from a chip to bytes
 
 /// Byte 67: an update pending, RESET low, PS low and the repeat used, from bit 0 up.
 fn flags_of(regs: &Regs) -> u8
     ensures { result ≡ flags_of regs.now }
 {
-    u8::from(regs.pending)
-        + (u8::from(regs.resetlow) * 2 + (u8::from(regs.pslow) * 4 + u8::from(regs.used) * 8))
+    u8::from(regs.pending) * PENDING
+        + (u8::from(regs.resetlow) * RESET_LOW
+            + (u8::from(regs.pslow) * PS_LOW + u8::from(regs.used) * USED))
 }
 
 /// Bytes 64 to 71: the count, low byte first, byte 67, and four zeros.
@@ -84,15 +97,15 @@ fn regs_in(bytes: &[u8; 72]) -> Regs
         },
         a: bytes[10] % 128,
         b: bytes[11],
-        pf: c / 64 % 2 == 1,
-        af: c / 32 % 2 == 1,
-        uf: c / 16 % 2 == 1,
-        vrt: bytes[13] / 128 % 2 == 1,
+        pf: is_on(c, registers::PF),
+        af: is_on(c, registers::AF),
+        uf: is_on(c, registers::UF),
+        vrt: is_on(bytes[13], registers::VRT),
         divider: divider_in(bytes),
-        pending: flags % 2 == 1,
-        resetlow: flags / 2 % 2 == 1,
-        pslow: flags / 4 % 2 == 1,
-        used: flags / 8 % 2 == 1,
+        pending: is_on(flags, PENDING),
+        resetlow: is_on(flags, RESET_LOW),
+        pslow: is_on(flags, PS_LOW),
+        used: is_on(flags, USED),
     }
 }
 
@@ -139,7 +152,7 @@ fn d_keeps(bytes: &[u8; 72]) -> bool
     ensures { result ≡ keeps_d bytes.now }
 {
     let d = bytes[13];
-    let ps_low = bytes[67] / 4 % 2 == 1;
+    let ps_low = is_on(bytes[67], PS_LOW);
     (d % 128 == 0) & (!ps_low | (d == 0))
 }
 
@@ -147,7 +160,7 @@ fn d_keeps(bytes: &[u8; 72]) -> bool
 fn reset_keeps(bytes: &[u8; 72]) -> bool
     ensures { result ≡ keeps_reset bytes.now }
 {
-    let reset_low = bytes[67] / 2 % 2 == 1;
+    let reset_low = is_on(bytes[67], RESET_LOW);
     (!reset_low | (bytes[11] / 8 % 16 == 0)) & (!reset_low | (bytes[12] == 0))
 }
 
@@ -163,7 +176,7 @@ fn pending_keeps(bytes: &[u8; 72]) -> bool
     ensures { result ≡ keeps_pending bytes.now }
 {
     let base = registers::base_of(bytes[10]);
-    let pending = bytes[67] % 2 == 1;
+    let pending = is_on(bytes[67], PENDING);
     let set = registers::set_on(bytes[11]);
     let runs = base.is_some();
     let before = divider_in(bytes).is_before_end(base);

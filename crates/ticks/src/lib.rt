@@ -16,7 +16,7 @@ use registers::Regs;
 fn update(regs: &mut Regs)
     ensures { regs.new ≡ updated regs.old }
 {
-    let dse = regs.b % 2 == 1;
+    let dse = cases::is_on(regs.b, registers::DSE);
     let mode = Mode::of_register_b(regs.b);
     let next = regs.clock.updated(mode, dse, regs.used, regs.alarm);
     regs.clock = next.clock;
