@@ -1,7 +1,7 @@
 -- The text of a line, in ASCII.
 use Rattle.std.specs.Prelude.{Bool, cond, List, [], ◌∷◌, ◌++◌, ℕ, zero, suc, ◌+◌, ◌/◌, ◌%◌, ltb}
 use Rattle.chip.specs.Calls.{lines}
-use Rattle.events.specs.declared.Event.{Event}
+use Rattle.events.specs.Events.{EventResult}
 
 -- Saved chip and event file: a number that needs at most so many digits, in decimal: the last digit is its rest by 10, and what is above
 -- it stands in front, where there is any.
@@ -31,7 +31,7 @@ line_text number answer byte irq sqw =
     field number ++ (field answer ++ (field byte ++ (level irq ∷ 32 ∷ level sqw ∷ 10 ∷ [])))
 
 -- Saved chip and event file: a record's line shows the lines as the chip has them after it.
-abbrev pub line_of : ℕ → Event → List ℕ
+abbrev pub line_of : ℕ → EventResult → List ℕ
 line_of number e = line_text number e.answer e.byte (lines e.chip).irq (lines e.chip).sqw
 
 -- Saved chip and event file: room that every line fits into. Ten digits, two numbers of three, two levels, four spaces and the line feed are 23.

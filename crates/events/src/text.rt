@@ -1,78 +1,115 @@
 // The text of a line, in ASCII.
-ghost use Rattle.std.specs.Prelude.{◌≡◌, ◌+◌, ◌≤◌, ◌<◌, length};
+ghost use Rattle.std.specs.Prelude.{◌≡◌, ◌+◌, ◌≤◌, ◌<◌, [], ◌∷◌, ◌++◌, length, drop};
 ghost use Rattle.std.proofs.lemmas.List.Edits.{sets};
-ghost use Rattle.events.specs.Text.{two_digits, decimal, field, line_text};
-ghost use Rattle.events.specs.Text.{level as Text·level};
+ghost use Rattle.events.specs.Text.{decimal, level, line_text, line_room};
 
-// Puts two digits.
-fn put_two(out: &mut [u8], at: usize, n: u32)
-    requires { (n < 100) × (at + 2 ≤ length out.old) }
-    ensures { out.new ≡ sets out.old at (two_digits n) }
-{
-    out[at] = 48 + ((n / 10) as u8);
-    out[at + 1] = 48 + ((n % 10) as u8);
+use itoa::write_digits;
+
+/// Room that every line fits into, in bytes.
+pub const LINE_ROOM: usize = 24;
+
+/// What the line of a record shows.
+#[derive(Clone, Copy, Debug, PartialEq, Eq)]
+pub struct Line {
+    /// The record's number, from 1 on.
+    pub number: u32,
+    /// The number of its answer, 0 where the call is accepted.
+    pub answer: u8,
+    pub byte: u8,
+    pub irq: bool,
+    pub sqw: bool,
 }
 
-// Puts a number from `at` on, and answers the place after it. Two digits a turn halve the divisions, which wait for each other.
-#[tactic(auto, using(crate::proofs::Laws::Text::digit_length, crate::proofs::Laws::Text::two_length, crate::proofs::Laws::Text::hundreds_length, crate::proofs::Laws::Text::digit_put))]
-fn put_number(out: &mut [u8], at: usize, n: u32) -> usize
-    requires { at + length (decimal n) ≤ length out.old }
-    ensures { (result ≡ at + length (decimal n)) × (out.new ≡ sets out.old at (decimal n)) }
-{
-    if n < 10 {
-        out[at] = 48 + (n as u8);
-        return at + 1;
+impl Line {
+    /// Puts the line, with its line feed, at the start of a buffer, and answers how many bytes it has.
+    #[tactic(auto, using(crate::proofs::Laws::Text::line_put))]
+    pub fn put(&self, out: &mut [u8]) -> usize
+        requires { length (line_text self.now.number self.now.answer self.now.byte self.now.irq self.now.sqw) ≤ length out.old }
+        ensures { (result ≡ length (line_text self.now.number self.now.answer self.now.byte self.now.irq self.now.sqw))
+            × (out.new ≡ sets out.old 0 (line_text self.now.number self.now.answer self.now.byte self.now.irq self.now.sqw)) }
+    {
+        let text = self.text();
+        let bytes = text.as_bytes();
+        out[..bytes.len()].copy_from_slice(bytes);
+        bytes.len()
     }
-    if n < 100 {
-        put_two(out, at, n);
-        return at + 2;
+
+    #[tactic(auto, using(crate::proofs::Laws::Text::number_is_short, crate::proofs::Laws::Text::byte_is_short, crate::proofs::Laws::Text::line_in_parts))]
+    fn text(&self) -> Text
+        ensures start { result.start ≤ line_room }
+        ensures text { drop result.start result.bytes ≡ line_text self.now.number self.now.answer self.now.byte self.now.irq self.now.sqw }
+    {
+        let mut text = Text::empty();
+        text.put_byte(b'\n');
+        text.put_level(self.sqw);
+        text.put_byte(b' ');
+        text.put_level(self.irq);
+        text.put_byte(b' ');
+        text.put_number(u32::from(self.byte));
+        text.put_byte(b' ');
+        text.put_number(u32::from(self.answer));
+        text.put_byte(b' ');
+        text.put_number(self.number);
+        text
     }
-    let next = put_number(out, at, n / 100);
-    put_two(out, next, n % 100);
-    next + 2
 }
 
-// Puts a number and the space behind it.
-#[tactic(auto, using(crate::proofs::Laws::Text::field_length, crate::proofs::Laws::Text::field_put))]
-fn put_field(out: &mut [u8], at: usize, n: u32) -> usize
-    requires { at + length (field n) ≤ length out.old }
-    ensures { (result ≡ at + length (field n)) × (out.new ≡ sets out.old at (field n)) }
-{
-    let next = put_number(out, at, n);
-    out[next] = b' ';
-    next + 1
+/// Text that grows to the front, since the last digit of a number is known first.
+#[derive(Clone, Copy)]
+struct Text {
+    bytes: [u8; LINE_ROOM],
+    /// Where the text starts; it goes on to the end of the bytes.
+    start: usize,
 }
 
-fn level(on: bool) -> u8
-    ensures { result ≡ Text·level on }
-{
-    if on {
-        return b'1';
+impl Text {
+    fn empty() -> Self
+        ensures start { result.start ≡ line_room }
+        ensures text { drop result.start result.bytes ≡ [] }
+    {
+        Text {
+            bytes: [0; LINE_ROOM],
+            start: LINE_ROOM,
+        }
     }
-    b'0'
-}
 
-// Puts a line from `at` on, and answers the place after it.
-#[tactic(auto, using(crate::proofs::Laws::Text::line_length, crate::proofs::Laws::Text::line_put), unfolding(crate::specs::Text::line_text))]
-pub fn put_line(
-    out: &mut [u8],
-    at: usize,
-    number: u32,
-    answer: u8,
-    byte: u8,
-    irq: bool,
-    sqw: bool,
-) -> usize
-    requires { at + length (line_text number answer byte irq sqw) ≤ length out.old }
-    ensures { (result ≡ at + length (line_text number answer byte irq sqw))
-        × (out.new ≡ sets out.old at (line_text number answer byte irq sqw)) }
-{
-    let a = put_field(out, at, number);
-    let b = put_field(out, a, answer as u32);
-    let c = put_field(out, b, byte as u32);
-    out[c] = level(irq);
-    out[c + 1] = b' ';
-    out[c + 2] = level(sqw);
-    out[c + 3] = b'\n';
-    c + 4
+    fn as_bytes(&self) -> &[u8]
+        requires { self.now.start ≤ line_room }
+        ensures { result.now ≡ drop self.now.start self.now.bytes }
+    {
+        &self.bytes[self.start..]
+    }
+
+    /// Puts a byte in front of the text.
+    #[tactic(auto, using(crate::proofs::Laws::Text::byte_in_front))]
+    fn put_byte(&mut self, byte: u8)
+        requires room { 0 < self.old.start }
+        requires start { self.old.start ≤ line_room }
+        ensures start { self.new.start + 1 ≡ self.old.start }
+        ensures text { drop self.new.start self.new.bytes ≡ byte ∷ drop self.old.start self.old.bytes }
+    {
+        self.start -= 1;
+        self.bytes[self.start] = byte;
+    }
+
+    /// Puts a level in front of the text: 1 is high.
+    fn put_level(&mut self, is_high: bool)
+        requires room { 0 < self.old.start }
+        requires start { self.old.start ≤ line_room }
+        ensures start { self.new.start + 1 ≡ self.old.start }
+        ensures text { drop self.new.start self.new.bytes ≡ level is_high ∷ drop self.old.start self.old.bytes }
+    {
+        self.put_byte(b'0' + u8::from(is_high));
+    }
+
+    /// Puts a number in front of the text.
+    #[tactic(auto, using(crate::proofs::Laws::Text::decimal_is_std))]
+    fn put_number(&mut self, number: u32)
+        requires room { length (decimal number) ≤ self.old.start }
+        requires start { self.old.start ≤ line_room }
+        ensures start { self.new.start + length (decimal number) ≡ self.old.start }
+        ensures text { drop self.new.start self.new.bytes ≡ decimal number ++ drop self.old.start self.old.bytes }
+    {
+        self.start = write_digits(u64::from(number), &mut self.bytes, self.start);
+    }
 }
