@@ -44,18 +44,11 @@ event_of chip kind address low high =
 abbrev pub part_event : Chip → EventResult
 part_event chip = record { answer = number_of Length; byte = 0; chip = chip }
 
--- Saved chip and event file: the same of a record's bytes as a list.
+-- Saved chip and event file: what a record of these four bytes gives.
 abbrev pub record_event : Chip → List ℕ → EventResult
 record_event chip bytes = event_of chip (slice_index bytes 0) (slice_index bytes 1) (slice_index bytes 2) (slice_index bytes 3)
 
--- Saved chip and event file: what a call gives.
-abbrev pub call_of : Chip → Event → EventResult
-call_of chip (Read address) = read_event (read chip address)
-call_of chip (Write address value) = plain_event (write chip address value)
-call_of chip (Run count) = plain_event (run chip count)
-call_of chip (Pins reset ps) = record { answer = 0; byte = 0; chip = pins chip reset ps }
-
--- Saved chip and event file: the call that a record's bytes are.
+-- Saved chip and event file: the event that four bytes are.
 abbrev pub decoded : List ℕ → Result Event Refusal
 decoded bytes =
     cond (eqb (slice_index bytes 0) 0) (Ok (Read (slice_index bytes 1)))
@@ -63,3 +56,10 @@ decoded bytes =
     (cond (eqb (slice_index bytes 0) 2) (Ok (Run (slice_index bytes 2 + 256 * slice_index bytes 3)))
     (cond (eqb (slice_index bytes 0) 3) (Ok (Pins (eqb (slice_index bytes 2 % 2) 1) (eqb (slice_index bytes 2 / 2 % 2) 1)))
     (Err Kind))))
+
+-- Saved chip and event file: what an event gives.
+abbrev pub call_of : Chip → Event → EventResult
+call_of chip (Read address) = read_event (read chip address)
+call_of chip (Write address value) = plain_event (write chip address value)
+call_of chip (Run count) = plain_event (run chip count)
+call_of chip (Pins reset ps) = record { answer = 0; byte = 0; chip = pins chip reset ps }

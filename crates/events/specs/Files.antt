@@ -27,10 +27,11 @@ unfoldable pub line : State → ℕ → ℕ → ℕ → ℕ → List ℕ
 line s kind address low high =
     cond (finished s) [] (line_of (s.done + 1) (event_of s.chip kind address low high))
 
--- Saved chip and event file: the same of a record's bytes as a list.
+-- Saved chip and event file: what a record of these four bytes leaves.
 abbrev pub after_record : State → List ℕ → State
 after_record s bytes = after s (slice_index bytes 0) (slice_index bytes 1) (slice_index bytes 2) (slice_index bytes 3)
 
+-- Saved chip and event file: and its line.
 abbrev pub record_line : State → List ℕ → List ℕ
 record_line s bytes = line s (slice_index bytes 0) (slice_index bytes 1) (slice_index bytes 2) (slice_index bytes 3)
 

@@ -1,4 +1,5 @@
-// What one record does to a chip.
+//! What one record does to a chip.
+
 ghost use Rattle.std.specs.Prelude.{◌≡◌};
 ghost use Rattle.refusals.specs.Numbers.{answer_number};
 ghost use Rattle.events.specs.Events.{decoded, call_of, record_event};
@@ -6,12 +7,12 @@ ghost use Rattle.events.specs.Events.{decoded, call_of, record_event};
 use chip::Chip;
 use refusals::Refusal;
 
-/// One call of a chip.
+/// One call of a chip, as a record says it.
 #[derive(Clone, Copy, Debug, PartialEq, Eq)]
 pub enum Event {
-    /// Reads the byte at an address.
+    /// Reads the byte at an address, 0 to 63.
     Read { address: u8 },
-    /// Writes a byte at an address.
+    /// Writes a byte at an address, 0 to 63.
     Write { address: u8, value: u8 },
     /// Makes so many ticks, 0 to 65,535.
     Run { count: u16 },
@@ -22,13 +23,14 @@ pub enum Event {
 /// What a record's line shows of its call.
 #[derive(Clone, Copy, Debug, PartialEq, Eq)]
 pub struct Shown {
+    /// Whether the call is accepted, or why it is refused.
     pub answer: Result<(), Refusal>,
     /// The byte that was read, or 255 where the read is refused; 0 for every other call.
     pub byte: u8,
 }
 
 /// A record's four bytes are its kind, the address, and the value's low and high byte. Kind 0 reads, 1 writes the low byte, 2 runs as many
-/// ticks as both bytes say, and 3 sets the pins by the low byte: bit 0 is RESET high, bit 1 PS high. Any other kind is refused with `Kind`.
+/// ticks as both bytes say, and 3 sets the pins by the low one: bit 0 is RESET high, bit 1 PS high. Any other kind is refused with `Kind`.
 impl TryFrom<[u8; 4]> for Event {
     type Error = Refusal;
 
@@ -55,7 +57,7 @@ impl TryFrom<[u8; 4]> for Event {
 }
 
 impl Event {
-    /// Makes the call. A refused one leaves the chip as it was.
+    /// Makes the call on a chip. A refused one leaves the chip as it was.
     pub fn apply(self, chip: &mut Chip) -> Shown
         ensures answer { answer_number result.answer ≡ (call_of chip.old self).answer }
         ensures byte { result.byte ≡ (call_of chip.old self).byte }
@@ -94,8 +96,8 @@ impl Event {
     }
 }
 
+/// Makes the call that a record's four bytes are. Bytes of an unknown kind are refused with `Kind`, and leave the chip as it was.
 #[tactic(auto, using(crate::proofs::Laws::Events::record_of_call, crate::proofs::Laws::Events::record_of_no_call))]
-/// Makes the call that a record's four bytes are. One of an unknown kind is refused, and leaves the chip as it was.
 pub fn apply(chip: &mut Chip, bytes: [u8; 4]) -> Shown
     ensures answer { answer_number result.answer ≡ (record_event chip.old bytes).answer }
     ensures byte { result.byte ≡ (record_event chip.old bytes).byte }

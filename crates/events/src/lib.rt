@@ -16,12 +16,13 @@ pub use event::{Event, Shown, apply};
 use refusals::{Refusal, answer_number};
 pub use text::{LINE_ROOM, Line};
 
-// The last record that gets a line.
+/// The number of the last record that gets a line.
 const LAST: u32 = u32::MAX;
 
-/// How far a file has come.
+/// How far an event file has come.
 #[derive(Clone, Copy, Debug, PartialEq, Eq)]
 pub struct State {
+    /// The chip after the records that are done.
     pub chip: Chip,
     /// How many records have had their line.
     pub done: u32,
@@ -47,7 +48,7 @@ impl State {
         self.done == LAST
     }
 
-    /// The line of the next record, with the levels of the chip as it is now.
+    /// The line of the next record, with the levels of the chip as it is now. The record itself is not counted yet.
     fn next_line(&self, shown: Shown) -> Line
         requires { self.now.done < last_record }
         ensures number { result.number ≡ self.now.done + 1 }
@@ -84,7 +85,8 @@ impl State {
         end
     }
 
-    /// The records of a block, with their lines from the buffer's start on; answers how many bytes they have.
+    /// The whole records of a block, one after the other, with their lines at the start of the buffer; answers how many bytes the lines have.
+    /// Records past the last one that gets a line do nothing.
     pub fn work(&mut self, input: &[u8], out: &mut [u8]) -> usize
         requires { (length input.now % 4 ≡ 0) × (length input.now / 4 * line_room ≤ length out.old) }
         ensures { (self.new ≡ state_after self.old input.now)
@@ -100,7 +102,8 @@ impl State {
         end
     }
 
-    /// The line of a last part-record; answers how many bytes it has.
+    /// The line of a last record of fewer than four bytes, which is refused with `Length`, at the start of the buffer; answers how many bytes it
+    /// has.
     #[tactic(auto, using(crate::proofs::Laws::Text::line_is_short), unfolding(crate::specs::Files::part_line))]
     pub fn part(&self, out: &mut [u8]) -> usize
         requires { line_room ≤ length out.old }

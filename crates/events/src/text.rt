@@ -1,4 +1,5 @@
-// The text of a line, in ASCII.
+//! The text of a line, in ASCII.
+
 ghost use Rattle.std.specs.Prelude.{◌≡◌, ◌+◌, ◌≤◌, ◌<◌, [], ◌∷◌, ◌++◌, length, drop};
 ghost use Rattle.std.proofs.lemmas.List.Edits.{sets};
 ghost use Rattle.events.specs.Text.{decimal, level, line_text, line_room};
@@ -15,8 +16,11 @@ pub struct Line {
     pub number: u32,
     /// The number of its answer, 0 where the call is accepted.
     pub answer: u8,
+    /// The byte that it read, 255 where a read is refused, 0 for every other record.
     pub byte: u8,
+    /// Whether the interrupt line is asserted after the record.
     pub irq: bool,
+    /// Whether the square wave is high after the record.
     pub sqw: bool,
 }
 
@@ -34,6 +38,7 @@ impl Line {
         bytes.len()
     }
 
+    /// The line's text.
     #[tactic(auto, using(crate::proofs::Laws::Text::number_is_short, crate::proofs::Laws::Text::byte_is_short, crate::proofs::Laws::Text::line_in_parts))]
     fn text(&self) -> Text
         ensures start { result.start ≤ line_room }
@@ -54,7 +59,8 @@ impl Line {
     }
 }
 
-/// Text that grows to the front, since the last digit of a number is known first.
+/// Text that grows to the front, since the last digit of a number is known first. The digits come from `itoa`: of `write!` it is known what
+/// it wrote where it answers `Ok`, and not that it does.
 #[derive(Clone, Copy)]
 struct Text {
     bytes: [u8; LINE_ROOM],

@@ -17,14 +17,16 @@ const BLOCK: usize = 65536;
 #[derive(Drop)]
 struct Program {
     state: State,
-    /// The block that is read; at its start stand the bytes that are left of a record that is not whole yet.
+    /// The block that is read. At its start stand the bytes of a record that is not whole yet.
     input: [u8; BLOCK],
+    /// How many those are, 0 to 3.
     left: usize,
     /// Room for the lines of a block.
     out: [u8; BLOCK / 4 * LINE_ROOM],
 }
 
 impl Program {
+    /// Before the first read.
     fn new() -> Self
         ensures { result.left ≡ 0 }
     {
@@ -78,38 +80,41 @@ impl Program {
         ensures { self.new.left < 4 }
     {
         let total = self.refill(reader)?;
-        if total <= self.left {
+        if total == self.left {
             return Ok(ControlFlow::Break(()));
         }
         let end = self.work_block(total);
         writer.write_all(&self.out[..end])?;
-        if self.state.is_finished() {
-            return Ok(ControlFlow::Break(()));
-        }
-        Ok(ControlFlow::Continue(()))
+        Ok(if self.state.is_finished() {
+            ControlFlow::Break(())
+        } else {
+            ControlFlow::Continue(())
+        })
     }
 
-    /// All of the input, and the line of a last part-record. A read or a write that fails is the last: what a failed read cut is not known to
-    /// be the input's last record.
-    fn run(&mut self, reader: &mut impl Read, writer: &mut impl Write) -> io::Result<()>
-        requires { self.old.left < 4 }
-    {
-        // A proved loop has to end, and nothing says that the input does: no run uses up so many turns.
-        for _ in 0..u64::MAX {
-            if self.turn(reader, writer)?.is_break() {
-                break;
-            }
+    /// The line of a last part-record, where one is left.
+    fn finish(&mut self, writer: &mut impl Write) -> io::Result<()> {
+        if self.left == 0 {
+            return Ok(());
         }
-        if self.left > 0 {
-            let end = self.state.part(&mut self.out);
-            writer.write_all(&self.out[..end])?;
-        }
-        Ok(())
+        let end = self.state.part(&mut self.out);
+        writer.write_all(&self.out[..end])
     }
 }
 
-fn main(rt: HostRuntime) {
+/// All of the input. A read or a write that fails is the last: what a failed read cut is not known to be the input's last record.
+fn run(reader: &mut impl Read, writer: &mut impl Write) -> io::Result<()> {
     let mut program = Program::new();
-    // Where standard input or output fails, there is nothing left to do.
-    let _ = program.run(&mut rt.stdin(), &mut rt.stdout());
+    // A proved loop has to end, and nothing says that the input does: no run uses up so many turns.
+    for _ in 0..u64::MAX {
+        if program.turn(reader, writer)?.is_break() {
+            break;
+        }
+    }
+    program.finish(writer)
+}
+
+fn main(rt: HostRuntime) {
+    // Where standard input or output fails, nothing is left to do, and the status is 0.
+    let _ = run(&mut rt.stdin(), &mut rt.stdout());
 }

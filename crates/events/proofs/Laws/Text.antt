@@ -14,7 +14,7 @@ use Rattle.std.proofs.lemmas.Fmt.{AppendsLastDigit, decimal_from_appends, length
 use Rattle.std.proofs.lemmas.List.{get_or-set_same}
 use Rattle.std.proofs.lemmas.List.Edits.{sets-eq}
 use Rattle.cases.proofs.Tests.{ltb_case}
-use Rattle.events.specs.Text.{digits, two_digits, decimal, level, field, line_text, line_room}
+use Rattle.events.specs.Text.{digits, decimal, level, field, line_text, line_room}
 
 -- ---- digits
 
@@ -31,22 +31,7 @@ digit_behind : (places n : ℕ) → 10 ≤ n → digits (suc places) n ≡ digit
 unfolding digits
 digit_behind places n h = rw (le-ltb n 10 h)
 
-one_place_more : (places n : ℕ) → n < limit (suc places) → digits (suc (suc places)) n ≡ digits (suc places) n
-unfolding digits
-one_place_more zero n h = last_digit 1 n (omega arith) ∙ sym (last_digit 0 n (omega arith))
-one_place_more (suc places) n h =
-    ap (λ (front : List ℕ). cond (ltb n 10) ((48 + n) ∷ []) (front ++ ((48 + n % 10) ∷ []))) (one_place_more places (n / 10) (omega arith))
-
-pub decimal_of_digit : (n : ℕ) → n < 10 → decimal n ≡ (48 + n) ∷ []
-unfolding decimal
-decimal_of_digit n h = last_digit 9 n h
-
-decimal_of_more : (n : ℕ) → 10 ≤ n → n < 10000000000 → decimal n ≡ decimal (n / 10) ++ ((48 + n % 10) ∷ [])
-unfolding decimal
-decimal_of_more n a h =
-    digit_behind 9 n a ∙ ap (λ (front : List ℕ). front ++ ((48 + n % 10) ∷ [])) (sym (one_place_more 8 (n / 10) (omega arith)))
-
--- std's decimals are these
+-- std has the same decimals
 pub decimal_is_std : (n : ℕ) → n < 4294967296 → std.decimal n ≡ decimal n
 unfolding decimal
 decimal_is_std n h =
