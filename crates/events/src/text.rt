@@ -1,10 +1,11 @@
 //! The text of a line, in ASCII.
 
-ghost use Rattle.std.specs.Prelude.{◌≡◌, ◌+◌, ◌≤◌, ◌<◌, [], ◌∷◌, ◌++◌, length, drop};
+ghost use Rattle.std.specs.Prelude.{◌≡◌, ◌+◌, ◌≤◌, ◌<◌, [], ◌∷◌, ◌++◌, List, ℕ, length, drop};
 ghost use Rattle.std.proofs.lemmas.List.Edits.{sets};
 ghost use Rattle.events.specs.Text.{decimal, level, line_text, line_room};
 
 use itoa::write_digits;
+use std::marker::Model;
 
 /// Room that every line fits into, in bytes.
 pub const LINE_ROOM: usize = 24;
@@ -39,10 +40,9 @@ impl Line {
     }
 
     /// The line's text.
-    #[tactic(auto, using(crate::proofs::Laws::Text::number_is_short, crate::proofs::Laws::Text::byte_is_short, crate::proofs::Laws::Text::line_in_parts))]
+    #[tactic(auto, using(crate::proofs::Laws::Text::number_is_short, crate::proofs::Laws::Text::byte_is_short, crate::proofs::Laws::Text::line_in_parts, crate::proofs::Laws::Text::lengths_add))]
     fn text(&self) -> Text
-        ensures start { result.start ≤ line_room }
-        ensures text { drop result.start result.bytes ≡ line_text self.now.number self.now.answer self.now.byte self.now.irq self.now.sqw }
+        ensures { result ≡ line_text self.now.number self.now.answer self.now.byte self.now.irq self.now.sqw }
     {
         let mut text = Text::empty();
         text.put_byte(b'\n');
@@ -59,19 +59,26 @@ impl Line {
     }
 }
 
-/// Text that grows to the front, since the last digit of a number is known first. The digits come from `itoa`: of `write!` it is known what
-/// it wrote where it answers `Ok`, and not that it does.
-#[derive(Clone, Copy)]
+/// Text of at most `LINE_ROOM` bytes that grows to the front, since the last digit of a number is known first. The digits come from `itoa`: of
+/// `write!` it is known what it wrote where it answers `Ok`, and not that it does.
+#[derive(Drop)]
 struct Text {
     bytes: [u8; LINE_ROOM],
     /// Where the text starts; it goes on to the end of the bytes.
     start: usize,
 }
 
+impl Model for Text {
+    ghost Value = { List ℕ };
+
+    ghost view = { λ text. drop text.start text.bytes };
+
+    ghost invariant = { λ text. text.start ≤ 24 };
+}
+
 impl Text {
     fn empty() -> Self
-        ensures start { result.start ≡ line_room }
-        ensures text { drop result.start result.bytes ≡ [] }
+        ensures { result ≡ [] }
     {
         Text {
             bytes: [0; LINE_ROOM],
@@ -80,8 +87,7 @@ impl Text {
     }
 
     fn as_bytes(&self) -> &[u8]
-        requires { self.now.start ≤ line_room }
-        ensures { result.now ≡ drop self.now.start self.now.bytes }
+        ensures { result.now ≡ self.now }
     {
         &self.bytes[self.start..]
     }
@@ -89,10 +95,8 @@ impl Text {
     /// Puts a byte in front of the text.
     #[tactic(auto, using(crate::proofs::Laws::Text::byte_in_front))]
     fn put_byte(&mut self, byte: u8)
-        requires room { 0 < self.old.start }
-        requires start { self.old.start ≤ line_room }
-        ensures start { self.new.start + 1 ≡ self.old.start }
-        ensures text { drop self.new.start self.new.bytes ≡ byte ∷ drop self.old.start self.old.bytes }
+        requires { length self.old < line_room }
+        ensures { self.new ≡ byte ∷ self.old }
     {
         self.start -= 1;
         self.bytes[self.start] = byte;
@@ -100,21 +104,17 @@ impl Text {
 
     /// Puts a level in front of the text: 1 is high.
     fn put_level(&mut self, is_high: bool)
-        requires room { 0 < self.old.start }
-        requires start { self.old.start ≤ line_room }
-        ensures start { self.new.start + 1 ≡ self.old.start }
-        ensures text { drop self.new.start self.new.bytes ≡ level is_high ∷ drop self.old.start self.old.bytes }
+        requires { length self.old < line_room }
+        ensures { self.new ≡ level is_high ∷ self.old }
     {
         self.put_byte(b'0' + u8::from(is_high));
     }
 
     /// Puts a number in front of the text.
-    #[tactic(auto, using(crate::proofs::Laws::Text::decimal_is_std))]
+    #[tactic(auto, using(crate::proofs::Laws::Text::decimal_is_std, crate::proofs::Laws::Text::room_in_front))]
     fn put_number(&mut self, number: u32)
-        requires room { length (decimal number) ≤ self.old.start }
-        requires start { self.old.start ≤ line_room }
-        ensures start { self.new.start + length (decimal number) ≡ self.old.start }
-        ensures text { drop self.new.start self.new.bytes ≡ decimal number ++ drop self.old.start self.old.bytes }
+        requires { length (decimal number) + length self.old ≤ line_room }
+        ensures { self.new ≡ decimal number ++ self.old }
     {
         self.start = write_digits(u64::from(number), &mut self.bytes, self.start);
     }

@@ -6,7 +6,7 @@ use mathlib.Core.Logic.{◌⊎◌, inl, inr}
 use Prim.Native.Nat.{ℕ, zero, suc, ◌+◌, ◌-◌, ◌*◌, ◌/◌, ◌%◌, ◌≤◌, ◌<◌, ◌^◌}
 use native.Mathlib.Omega.{arith}
 use lib.Dec.{ltb}
-use lib.ListN.{length, get_or, set, drop, length-append, length-set, get_or-append}
+use lib.ListN.{length, get_or, set, drop, length-append, length-drop, length-set, get_or-append}
 use lib.Seq.{sets, drop-cons, drop-set-lt}
 use borrow.Author.Tests.{lt-ltb, le-ltb}
 use Rattle.std.specs.Fmt as std
@@ -96,6 +96,15 @@ line_put l text h =
     rw (sets-eq text l 0 (omega arith), e)
 
 -- ---- a text that grows to the front
+
+pub room_in_front : (bytes : List ℕ) (start n : ℕ) → n < 4294967296 → length bytes ≡ 24 → start ≤ 24
+    → length (decimal n) + length (drop start bytes) ≤ line_room → (length (std.decimal n) ≤ start) × (start ≤ length bytes)
+room_in_front bytes start n h e i room =
+    let d = length-drop start bytes in
+    rw (decimal_is_std n h) (omega arith, omega arith)
+
+pub lengths_add : (first second : List ℕ) → length (first ++ second) ≡ length first + length second
+lengths_add first second = length-append first second
 
 pub byte_in_front : (l : List ℕ) (at byte : ℕ) → 0 < at → at ≤ length l → drop (at - 1) (set l (at - 1) byte) ≡ byte ∷ drop at l
 byte_in_front l at byte h i =
