@@ -1,6 +1,7 @@
 -- The text of a line, in ASCII.
 use Rattle.std.specs.Prelude.{Bool, cond, List, [], ◌∷◌, ◌++◌, ℕ, zero, suc, ◌+◌, ◌/◌, ◌%◌, ltb}
 use Rattle.chip.specs.Calls.{lines}
+use Rattle.events.specs.declared.text.Line.{Line}
 use Rattle.events.specs.Events.{EventResult}
 
 -- Saved chip and event file: a number that needs at most so many digits, in decimal: the last digit is its rest by 10, and what is above
@@ -25,6 +26,10 @@ field n = decimal n ++ (32 ∷ [])
 unfoldable pub line_text : ℕ → ℕ → ℕ → Bool → Bool → List ℕ
 line_text number answer byte irq sqw =
     field number ++ (field answer ++ (field byte ++ (level irq ∷ 32 ∷ level sqw ∷ 10 ∷ [])))
+
+-- Saved chip and event file: the same of a line's parts.
+abbrev pub text_of : Line → List ℕ
+text_of l = line_text l.number l.answer l.byte l.irq l.sqw
 
 -- Saved chip and event file: a record's line shows the lines as the chip has them after it.
 abbrev pub line_of : ℕ → EventResult → List ℕ

@@ -71,10 +71,10 @@ impl State {
     #[tactic(auto, using(crate::proofs::Laws::Text::line_is_short), unfolding(crate::specs::Files::after, crate::specs::Files::line))]
     fn step(&mut self, bytes: [u8; 4], out: &mut [u8]) -> usize
         requires { line_room ≤ length out.old }
-        ensures { (self.new ≡ after_record self.old bytes)
-            × (result ≡ length (record_line self.old bytes))
-            × (out.new ≡ sets out.old 0 (record_line self.old bytes))
-            × (result ≤ line_room) }
+        ensures state { self.new ≡ after_record self.old bytes }
+        ensures end { result ≡ length (record_line self.old bytes) }
+        ensures text { out.new ≡ sets out.old 0 (record_line self.old bytes) }
+        ensures fits { result ≤ line_room }
     {
         if self.is_finished() {
             return 0;
@@ -88,11 +88,12 @@ impl State {
     /// The whole records of a block, one after the other, with their lines at the start of the buffer; answers how many bytes the lines have.
     /// Records past the last one that gets a line do nothing.
     pub fn work(&mut self, input: &[u8], out: &mut [u8]) -> usize
-        requires { (length input.now % 4 ≡ 0) × (length input.now / 4 * line_room ≤ length out.old) }
-        ensures { (self.new ≡ state_after self.old input.now)
-            × (result ≡ length (printed_from self.old input.now))
-            × (out.new ≡ sets out.old 0 (printed_from self.old input.now))
-            × (result ≤ length input.now / 4 * line_room) }
+        requires whole { length input.now % 4 ≡ 0 }
+        requires room { length input.now / 4 * line_room ≤ length out.old }
+        ensures state { self.new ≡ state_after self.old input.now }
+        ensures end { result ≡ length (printed_from self.old input.now) }
+        ensures text { out.new ≡ sets out.old 0 (printed_from self.old input.now) }
+        ensures fits { result ≤ length input.now / 4 * line_room }
     {
         let (records, _) = input.as_chunks::<4>();
         let mut end = 0;
@@ -107,9 +108,9 @@ impl State {
     #[tactic(auto, using(crate::proofs::Laws::Text::line_is_short), unfolding(crate::specs::Files::part_line))]
     pub fn part(&self, out: &mut [u8]) -> usize
         requires { line_room ≤ length out.old }
-        ensures { (result ≡ length (part_line self.now))
-            × (out.new ≡ sets out.old 0 (part_line self.now))
-            × (result ≤ line_room) }
+        ensures end { result ≡ length (part_line self.now) }
+        ensures text { out.new ≡ sets out.old 0 (part_line self.now) }
+        ensures fits { result ≤ line_room }
     {
         if self.is_finished() {
             return 0;

@@ -2,7 +2,7 @@
 
 ghost use Rattle.std.specs.Prelude.{◌≡◌, ◌+◌, ◌≤◌, ◌<◌, [], ◌∷◌, ◌++◌, List, ℕ, length, drop};
 ghost use Rattle.std.proofs.lemmas.List.Edits.{sets};
-ghost use Rattle.events.specs.Text.{decimal, level, line_text, line_room};
+ghost use Rattle.events.specs.Text.{decimal, level, text_of, line_room};
 
 use itoa::write_digits;
 use std::marker::Model;
@@ -29,9 +29,9 @@ impl Line {
     /// Puts the line, with its line feed, at the start of a buffer, and answers how many bytes it has.
     #[tactic(auto, using(crate::proofs::Laws::Text::line_put))]
     pub fn put(&self, out: &mut [u8]) -> usize
-        requires { length (line_text self.now.number self.now.answer self.now.byte self.now.irq self.now.sqw) ≤ length out.old }
-        ensures { (result ≡ length (line_text self.now.number self.now.answer self.now.byte self.now.irq self.now.sqw))
-            × (out.new ≡ sets out.old 0 (line_text self.now.number self.now.answer self.now.byte self.now.irq self.now.sqw)) }
+        requires { length (text_of self.now) ≤ length out.old }
+        ensures end { result ≡ length (text_of self.now) }
+        ensures text { out.new ≡ sets out.old 0 (text_of self.now) }
     {
         let text = self.text();
         let bytes = text.as_bytes();
@@ -42,7 +42,7 @@ impl Line {
     /// The line's text.
     #[tactic(auto, using(crate::proofs::Laws::Text::number_is_short, crate::proofs::Laws::Text::byte_is_short, crate::proofs::Laws::Text::line_in_parts, crate::proofs::Laws::Text::lengths_add))]
     fn text(&self) -> Text
-        ensures { result ≡ line_text self.now.number self.now.answer self.now.byte self.now.irq self.now.sqw }
+        ensures { result ≡ text_of self.now }
     {
         let mut text = Text::empty();
         text.put_byte(b'\n');
