@@ -10,9 +10,9 @@ use refusals::Refusal;
 /// One call of a chip, as a record says it.
 #[derive(Clone, Copy, Debug, PartialEq, Eq)]
 pub enum Event {
-    /// Reads the byte at an address, 0 to 63.
+    /// Reads the byte at an address. One above 63 is refused with `Address`.
     Read { address: u8 },
-    /// Writes a byte at an address, 0 to 63.
+    /// Writes a byte at an address. One above 63 is refused with `Address`.
     Write { address: u8, value: u8 },
     /// Makes so many ticks, 0 to 65,535.
     Run { count: u16 },

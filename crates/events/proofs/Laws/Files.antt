@@ -81,18 +81,6 @@ pub record Reached (l : List ℕ) (out₀ : List ℕ) (s₀ : State) (out : List
   pub end : at + length (printed_from s (drop i l)) ≡ length (printed_from s₀ l)
   pub text : sets out at (printed_from s (drop i l)) ≡ sets out₀ 0 (printed_from s₀ l)
 
-pub reached_start : (l out : List ℕ) (s : State) → Reached l out s out s 0 0
-reached_start l out s =
-    record {
-      inside = omega arith;
-      between = refl;
-      room = omega arith;
-      size = refl;
-      state = refl;
-      end = omega arith;
-      text = refl;
-    }
-
 module _ (l out₀ : List ℕ) (s₀ : State) (out : List ℕ) (s : State) (at i : ℕ) (r : Reached l out₀ s₀ out s at i) where
   pub four_left : length l % 4 ≡ 0 → i < length l → i + 4 ≤ length l
   four_left w h = omega (arith, r.between)
