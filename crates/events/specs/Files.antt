@@ -1,5 +1,5 @@
 -- What is printed for a file: a function of the list of its bytes.
-use Rattle.std.specs.Prelude.{Bool, cond, List, [], ◌∷◌, ◌++◌, ℕ, ◌+◌, eqb}
+use Rattle.std.specs.Prelude.{Bool, cond, List, [], ◌∷◌, ◌++◌, ℕ, ◌+◌, eqb, slice_index}
 use Rattle.chip.specs.Chips.{fresh}
 use Rattle.events.specs.declared.State.{State}
 use Rattle.events.specs.Events.{event_of, part_event}
@@ -26,6 +26,14 @@ after s kind address low high =
 unfoldable pub line : State → ℕ → ℕ → ℕ → ℕ → List ℕ
 line s kind address low high =
     cond (finished s) [] (line_of (s.done + 1) (event_of s.chip kind address low high))
+
+-- Saved chip and event file: what a record of these four bytes leaves.
+abbrev pub after_record : State → List ℕ → State
+after_record s bytes = after s (slice_index bytes 0) (slice_index bytes 1) (slice_index bytes 2) (slice_index bytes 3)
+
+-- Saved chip and event file: and its line.
+abbrev pub record_line : State → List ℕ → List ℕ
+record_line s bytes = line s (slice_index bytes 0) (slice_index bytes 1) (slice_index bytes 2) (slice_index bytes 3)
 
 -- Saved chip and event file: the line of a last part-record.
 unfoldable pub part_line : State → List ℕ

@@ -1,78 +1,121 @@
-// The text of a line, in ASCII.
-ghost use Rattle.std.specs.Prelude.{◌≡◌, ◌+◌, ◌≤◌, ◌<◌, length};
+//! The text of a line, in ASCII.
+
+ghost use Rattle.std.specs.Prelude.{◌≡◌, ◌+◌, ◌≤◌, ◌<◌, [], ◌∷◌, ◌++◌, List, ℕ, length, drop};
 ghost use Rattle.std.proofs.lemmas.List.Edits.{sets};
-ghost use Rattle.events.specs.Text.{two_digits, decimal, field, line_text};
-ghost use Rattle.events.specs.Text.{level as Text·level};
+ghost use Rattle.events.specs.Text.{decimal, level, text_of, line_room};
 
-// Puts two digits.
-fn put_two(out: &mut [u8], at: usize, n: u32)
-    requires { (n < 100) × (at + 2 ≤ length out.old) }
-    ensures { out.new ≡ sets out.old at (two_digits n) }
-{
-    out[at] = 48 + ((n / 10) as u8);
-    out[at + 1] = 48 + ((n % 10) as u8);
+use itoa::write_digits;
+use std::marker::Model;
+
+/// Room that every line fits into, in bytes.
+pub const LINE_ROOM: usize = 24;
+
+/// What the line of a record shows.
+#[derive(Clone, Copy, Debug, PartialEq, Eq)]
+pub struct Line {
+    /// The record's number, from 1 on.
+    pub number: u32,
+    /// The number of its answer, 0 where the call is accepted.
+    pub answer: u8,
+    /// The byte that it read, 255 where a read is refused, 0 for every other record.
+    pub byte: u8,
+    /// Whether the interrupt line is asserted after the record.
+    pub irq: bool,
+    /// Whether the square wave is high after the record.
+    pub sqw: bool,
 }
 
-// Puts a number from `at` on, and answers the place after it. Two digits a turn halve the divisions, which wait for each other.
-#[tactic(auto, using(crate::proofs::Laws::Text::digit_length, crate::proofs::Laws::Text::two_length, crate::proofs::Laws::Text::hundreds_length, crate::proofs::Laws::Text::digit_put))]
-fn put_number(out: &mut [u8], at: usize, n: u32) -> usize
-    requires { at + length (decimal n) ≤ length out.old }
-    ensures { (result ≡ at + length (decimal n)) × (out.new ≡ sets out.old at (decimal n)) }
-{
-    if n < 10 {
-        out[at] = 48 + (n as u8);
-        return at + 1;
+impl Line {
+    /// Puts the line, with its line feed, at the start of a buffer, and answers how many bytes it has.
+    #[tactic(auto, using(crate::proofs::Laws::Text::line_put))]
+    pub fn put(&self, out: &mut [u8]) -> usize
+        requires { length (text_of self.now) ≤ length out.old }
+        ensures end { result ≡ length (text_of self.now) }
+        ensures text { out.new ≡ sets out.old 0 (text_of self.now) }
+    {
+        let text = self.text();
+        let bytes = text.as_bytes();
+        out[..bytes.len()].copy_from_slice(bytes);
+        bytes.len()
     }
-    if n < 100 {
-        put_two(out, at, n);
-        return at + 2;
+
+    /// The line's text.
+    #[tactic(auto, using(crate::proofs::Laws::Text::number_is_short, crate::proofs::Laws::Text::byte_is_short, crate::proofs::Laws::Text::line_in_parts, crate::proofs::Laws::Text::lengths_add))]
+    fn text(&self) -> Text
+        ensures { result ≡ text_of self.now }
+    {
+        let mut text = Text::empty();
+        text.put_byte(b'\n');
+        text.put_level(self.sqw);
+        text.put_byte(b' ');
+        text.put_level(self.irq);
+        text.put_byte(b' ');
+        text.put_number(u32::from(self.byte));
+        text.put_byte(b' ');
+        text.put_number(u32::from(self.answer));
+        text.put_byte(b' ');
+        text.put_number(self.number);
+        text
     }
-    let next = put_number(out, at, n / 100);
-    put_two(out, next, n % 100);
-    next + 2
 }
 
-// Puts a number and the space behind it.
-#[tactic(auto, using(crate::proofs::Laws::Text::field_length, crate::proofs::Laws::Text::field_put))]
-fn put_field(out: &mut [u8], at: usize, n: u32) -> usize
-    requires { at + length (field n) ≤ length out.old }
-    ensures { (result ≡ at + length (field n)) × (out.new ≡ sets out.old at (field n)) }
-{
-    let next = put_number(out, at, n);
-    out[next] = b' ';
-    next + 1
+/// Text of at most `LINE_ROOM` bytes that grows to the front, since the last digit of a number is known first. The digits come from `itoa`: of
+/// `write!` it is known what it wrote where it answers `Ok`, and not that it does.
+#[derive(Drop)]
+struct Text {
+    bytes: [u8; LINE_ROOM],
+    /// Where the text starts; it goes on to the end of the bytes.
+    start: usize,
 }
 
-fn level(on: bool) -> u8
-    ensures { result ≡ Text·level on }
-{
-    if on {
-        return b'1';
+impl Model for Text {
+    ghost Value = { List ℕ };
+
+    ghost view = { λ text. drop text.start text.bytes };
+
+    ghost invariant = { λ text. text.start ≤ 24 };
+}
+
+impl Text {
+    fn empty() -> Self
+        ensures { result ≡ [] }
+    {
+        Text {
+            bytes: [0; LINE_ROOM],
+            start: LINE_ROOM,
+        }
     }
-    b'0'
-}
 
-// Puts a line from `at` on, and answers the place after it.
-#[tactic(auto, using(crate::proofs::Laws::Text::line_length, crate::proofs::Laws::Text::line_put), unfolding(crate::specs::Text::line_text))]
-pub fn put_line(
-    out: &mut [u8],
-    at: usize,
-    number: u32,
-    answer: u8,
-    byte: u8,
-    irq: bool,
-    sqw: bool,
-) -> usize
-    requires { at + length (line_text number answer byte irq sqw) ≤ length out.old }
-    ensures { (result ≡ at + length (line_text number answer byte irq sqw))
-        × (out.new ≡ sets out.old at (line_text number answer byte irq sqw)) }
-{
-    let a = put_field(out, at, number);
-    let b = put_field(out, a, answer as u32);
-    let c = put_field(out, b, byte as u32);
-    out[c] = level(irq);
-    out[c + 1] = b' ';
-    out[c + 2] = level(sqw);
-    out[c + 3] = b'\n';
-    c + 4
+    fn as_bytes(&self) -> &[u8]
+        ensures { result.now ≡ self.now }
+    {
+        &self.bytes[self.start..]
+    }
+
+    /// Puts a byte in front of the text.
+    #[tactic(auto, using(crate::proofs::Laws::Text::byte_in_front))]
+    fn put_byte(&mut self, byte: u8)
+        requires { length self.old < line_room }
+        ensures { self.new ≡ byte ∷ self.old }
+    {
+        self.start -= 1;
+        self.bytes[self.start] = byte;
+    }
+
+    /// Puts a level in front of the text: 1 is high.
+    fn put_level(&mut self, is_high: bool)
+        requires { length self.old < line_room }
+        ensures { self.new ≡ level is_high ∷ self.old }
+    {
+        self.put_byte(b'0' + u8::from(is_high));
+    }
+
+    /// Puts a number in front of the text.
+    #[tactic(auto, using(crate::proofs::Laws::Text::decimal_is_std, crate::proofs::Laws::Text::room_in_front))]
+    fn put_number(&mut self, number: u32)
+        requires { length (decimal number) + length self.old ≤ line_room }
+        ensures { self.new ≡ decimal number ++ self.old }
+    {
+        self.start = write_digits(u64::from(number), &mut self.bytes, self.start);
+    }
 }

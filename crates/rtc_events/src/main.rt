@@ -1,155 +1,120 @@
-// The event program: reads records from standard input, block by block, and writes their lines to standard output.
+//! The event program: reads records from standard input, block by block, and writes their lines to standard output.
 #![tactic(auto)]
 
-ghost use Rattle.std.specs.Prelude.{◌≡◌, ◌+◌, ◌*◌, ◌/◌, ◌%◌, ◌≤◌, ◌<◌, length, take, drop};
+ghost use Rattle.std.specs.Prelude.{◌≡◌, ◌+◌, ◌*◌, ◌/◌, ◌%◌, ◌≤◌, ◌<◌, length, take, drop, IfOk};
 ghost use Rattle.std.proofs.lemmas.List.Edits.{sets};
-ghost use Rattle.events.specs.Text.{line_room};
 ghost use Rattle.events.specs.Files.{state_after, printed_from};
 ghost use Rattle.rtc_events.specs.Blocks.{whole_of, part_of};
 
-use events::State;
+use events::{LINE_ROOM, State};
 use std::io::{self, Read, Write};
+use std::ops::ControlFlow;
 
-// How far the program has come: the bytes left of a record that is not whole yet, and whether to read on.
-#[derive(Clone, Copy)]
-struct Progress {
+/// How many bytes a block has.
+const BLOCK: usize = 65536;
+
+/// How far the program has come.
+#[derive(Drop)]
+struct Program {
     state: State,
+    /// The block that is read. At its start stand the bytes of a record that is not whole yet.
+    input: [u8; BLOCK],
+    /// How many those are, 0 to 3.
     left: usize,
-    going: bool,
+    /// Room for the lines of a block.
+    out: [u8; BLOCK / 4 * LINE_ROOM],
 }
 
-// What a block leaves: the end of its text, and how many bytes at its start are of a record that is not whole yet.
-#[derive(Clone, Copy)]
-struct Block {
-    state: State,
-    end: usize,
-    left: usize,
-}
-
-// Room for the lines of a block of 65,536 bytes, 24 bytes for each of its records.
-fn text_buffer() -> [u8; 393216]
-    ensures { 393216 ≡ length result }
-{
-    [0; 393216]
-}
-
-// Reads once behind the bytes that are left, and answers how many there are now: no more at the end of the input, and none after a read
-// that failed, since what it cut is not known to be the input's last record.
-fn refill(rt: &impl Input, input: &mut [u8], left: usize) -> usize
-    requires { left ≤ length input.old }
-    ensures { (result ≤ length input.old) × (take left input.new ≡ take left input.old) }
-{
-    match rt.reader().read(&mut input[left..]) {
-        Ok(n) => left + n,
-        Err(_) => 0,
+impl Program {
+    /// Before the first read.
+    fn new() -> Self
+        ensures { result.left ≡ 0 }
+    {
+        Program {
+            state: State::start(),
+            input: [0; BLOCK],
+            left: 0,
+            out: [0; BLOCK / 4 * LINE_ROOM],
+        }
     }
-}
 
-// Moves n bytes to the start of the block.
-#[tactic(auto, using(crate::proofs::Laws::Keep::none_moved))]
-fn keep(input: &mut [u8], from: usize, n: usize)
-    requires { from + n ≤ length input.old }
-    ensures { take n input.new ≡ take n (drop from input.old) }
-{
-    let mut i = 0;
-    while i < n {
-        input[i] = input[from + i];
-        i += 1;
+    /// Reads once behind the bytes that are left, and answers how many there are now: no more at the end of the input.
+    fn refill(&mut self, reader: &mut impl Read) -> io::Result<usize>
+        requires { self.old.left < 4 }
+        ensures total { IfOk result (λ total. total ≤ 65536) }
+        ensures kept { take self.old.left self.new.input ≡ take self.old.left self.old.input }
+        ensures left { self.new.left ≡ self.old.left }
+        ensures state { self.new.state ≡ self.old.state }
+    {
+        let got = reader.read(&mut self.input[self.left..])?;
+        Ok(self.left + got)
     }
-}
 
-// The lines of the records that are whole among the first bytes of a block. What is left of those bytes goes to its start.
-fn work_block(input: &mut [u8], out: &mut [u8], state: State, total: usize) -> Block
-    requires { (total ≤ length input.old) × (length input.old / 4 * line_room ≤ length out.old) }
-    ensures { (result.state ≡ state_after state (whole_of total input.old))
-        × (result.end ≡ length (printed_from state (whole_of total input.old)))
-        × (out.new ≡ sets out.old 0 (printed_from state (whole_of total input.old)))
-        × (result.left ≡ total % 4)
-        × (take result.left input.new ≡ part_of total input.old)
-        × (result.end ≤ length out.old) }
-{
-    let left = total % 4;
-    let whole = total - left;
-    let w = events::work(&input[..whole], out, state);
-    keep(input, whole, left);
-    let next = w.state;
-    Block {
-        state: next,
-        end: w.end,
-        left,
+    /// The lines of the records that are whole among the first bytes of the block; answers how many bytes they have. What is left of those
+    /// bytes goes to the block's start.
+    fn work_block(&mut self, total: usize) -> usize
+        requires { total ≤ 65536 }
+        ensures state { self.new.state ≡ state_after self.old.state (whole_of total self.old.input) }
+        ensures end { result ≡ length (printed_from self.old.state (whole_of total self.old.input)) }
+        ensures text { self.new.out ≡ sets self.old.out 0 (printed_from self.old.state (whole_of total self.old.input)) }
+        ensures left { self.new.left ≡ total % 4 }
+        ensures kept { take self.new.left self.new.input ≡ part_of total self.old.input }
+        ensures fits { result ≤ 393216 }
+    {
+        let left = total % 4;
+        let whole = total - left;
+        let end = self.state.work(&self.input[..whole], &mut self.out);
+        self.input.copy_within(whole..total, 0);
+        self.left = left;
+        end
     }
-}
 
-// One read, and the lines of the records that are whole with it, written before the next read waits.
-fn turn(
-    rt: &(impl Input + Print),
-    input: &mut [u8],
-    out: &mut [u8],
-    state: State,
-    left: usize,
-) -> Progress
-    requires { (left < 4) × (4 ≤ length input.old) × (length input.old / 4 * line_room ≤ length out.old) }
-    ensures { result.left < 4 }
-{
-    let total = refill(rt, input, left);
-    if total <= left {
-        return Progress {
-            state,
-            left: total,
-            going: false,
-        };
+    /// One read, and the lines of the records that are whole with it, written before the next read waits. Breaks at the end of the input and
+    /// after the last record that gets a line.
+    fn turn(
+        &mut self,
+        reader: &mut impl Read,
+        writer: &mut impl Write,
+    ) -> io::Result<ControlFlow<()>>
+        requires { self.old.left < 4 }
+        ensures { self.new.left < 4 }
+    {
+        let total = self.refill(reader)?;
+        if total == self.left {
+            return Ok(ControlFlow::Break(()));
+        }
+        let end = self.work_block(total);
+        writer.write_all(&self.out[..end])?;
+        Ok(if self.state.is_finished() {
+            ControlFlow::Break(())
+        } else {
+            ControlFlow::Continue(())
+        })
     }
-    let b = work_block(input, out, state, total);
-    let next = b.state;
-    let end = b.end;
-    let is_written = io::writer(rt).write_all(&out[..end]).is_ok();
-    if is_written {
-        return Progress {
-            state: next,
-            left: b.left,
-            going: !events::finished(next),
-        };
-    }
-    Progress {
-        state: next,
-        left: 0,
-        going: false,
+
+    /// The line of a last part-record, where one is left.
+    fn finish(&mut self, writer: &mut impl Write) -> io::Result<()> {
+        if self.left == 0 {
+            return Ok(());
+        }
+        let end = self.state.part(&mut self.out);
+        writer.write_all(&self.out[..end])
     }
 }
 
-// A proved loop has to end, and nothing says that the input does: it counts down from a number that no run uses up.
-fn turns_left(turns: u64, going: bool) -> u64
-    requires { 0 < turns }
-    ensures { result < turns }
-{
-    if going {
-        return turns - 1;
+/// All of the input. A read or a write that fails is the last: what a failed read cut is not known to be the input's last record.
+fn run(reader: &mut impl Read, writer: &mut impl Write) -> io::Result<()> {
+    let mut program = Program::new();
+    // A proved loop has to end, and nothing says that the input does: no run uses up so many turns.
+    for _ in 0..u64::MAX {
+        if program.turn(reader, writer)?.is_break() {
+            break;
+        }
     }
-    0
-}
-
-// All of the input, and the line of a last part-record.
-fn work_input(rt: &(impl Input + Print), input: &mut [u8], out: &mut [u8])
-    requires { (4 ≤ length input.old) × (length input.old / 4 * line_room ≤ length out.old) }
-{
-    let mut state = events::start();
-    let mut left: usize = 0;
-    let mut turns = u64::MAX;
-    while 0 < turns {
-        let p = turn(rt, input, out, state, left);
-        let s = p.state;
-        state = s;
-        left = p.left;
-        turns = turns_left(turns, p.going);
-    }
-    if 0 < left {
-        let end = events::part(out, state);
-        let _ = io::writer(rt).write_all(&out[..end]);
-    }
+    program.finish(writer)
 }
 
 fn main(rt: HostRuntime) {
-    let mut input = [0u8; 65536];
-    let mut out = text_buffer();
-    work_input(&rt, &mut input, &mut out);
+    // Where standard input or output fails, nothing is left to do, and the status is 0.
+    let _ = run(&mut rt.stdin(), &mut rt.stdout());
 }

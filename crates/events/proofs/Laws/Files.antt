@@ -1,13 +1,17 @@
 -- A file, block after block: what is printed for a whole is what is printed for its parts, one after the other.
 use mathlib.Core.Path.{◌≡◌, refl, sym, ap, ◌∙◌}
-use mathlib.Core.List.{List, [], ◌∷◌, ◌++◌, append_assoc}
-use Prim.Native.Nat.{ℕ, suc, ◌+◌, ◌*◌, ◌/◌, ◌%◌, ◌≤◌, ◌<◌}
+use mathlib.Core.List.{List, [], ◌∷◌, ◌++◌, append_assoc, append-nil}
+use Prim.Native.Nat.{ℕ, zero, suc, ◌+◌, ◌-◌, ◌*◌, ◌/◌, ◌%◌, ◌≤◌, ◌<◌}
 use native.Mathlib.Omega.{arith}
-use lib.ListN.{length, get_or, drop, length-append, drop_of_length-le}
-use lib.Seq.{drop-cons, sets, length-sets}
+use lib.ListN.{length, get_or, take, drop, length-append, length-drop, drop_of_length-le}
+use lib.Seq.{drop-cons, drop-drop, sets, length-sets}
+use borrow.Rule.Slice.PartMut.{put_mid}
+use Rattle.std.specs.Simd.{first_chunks}
+use Rattle.std.proofs.lemmas.List.{take_all, drop_all, get_or-take, get_or-drop}
+use Rattle.std.proofs.lemmas.List.Edits.{sets-eq}
 use Rattle.events.specs.declared.State.{State}
 use Rattle.events.specs.Text.{line_room}
-use Rattle.events.specs.Files.{after, line, part_line, state_after, printed_from, printed}
+use Rattle.events.specs.Files.{after, line, after_record, record_line, part_line, state_after, printed_from, printed}
 use Rattle.events.proofs.Laws.Text.{one_behind_the_other}
 
 -- ---- whole records
@@ -77,18 +81,6 @@ pub record Reached (l : List ℕ) (out₀ : List ℕ) (s₀ : State) (out : List
   pub end : at + length (printed_from s (drop i l)) ≡ length (printed_from s₀ l)
   pub text : sets out at (printed_from s (drop i l)) ≡ sets out₀ 0 (printed_from s₀ l)
 
-pub reached_start : (l out : List ℕ) (s : State) → Reached l out s out s 0 0
-reached_start l out s =
-    record {
-      inside = omega arith;
-      between = refl;
-      room = omega arith;
-      size = refl;
-      state = refl;
-      end = omega arith;
-      text = refl;
-    }
-
 module _ (l out₀ : List ℕ) (s₀ : State) (out : List ℕ) (s : State) (at i : ℕ) (r : Reached l out₀ s₀ out s at i) where
   pub four_left : length l % 4 ≡ 0 → i < length l → i + 4 ≤ length l
   four_left w h = omega (arith, r.between)
@@ -124,6 +116,54 @@ module _ (l out₀ : List ℕ) (s₀ : State) (out : List ℕ) (s : State) (at i
       let none = drop_of_length-le l h in
       let en = rw none at r.end in
       (rw none at r.state, omega arith, rw none at r.text, omega (arith, r.room, r.inside))
+
+-- ---- records as arrays of four bytes
+
+chunk_at : (k : ℕ) (l : List ℕ) (j : ℕ) → j < k → get_or (first_chunks 4 k l) j [] ≡ take 4 (drop (4 * j) l)
+chunk_at zero l j h = absurd (omega arith)
+chunk_at (suc k) l zero h = refl
+chunk_at (suc k) l (suc j) h =
+    let e : 4 + 4 * j ≡ 4 * suc j = omega arith in
+    chunk_at k (drop 4 l) j (omega arith) ∙ rw (drop-drop (4 * j) 4 l, e)
+
+-- a text put at the start of the rest of a buffer
+put_behind : (out text : List ℕ) (at : ℕ) → at + length text ≤ length out
+    → put_mid at (length out - at) out (sets (take (length out - at) (drop at out)) 0 text) ≡ sets out at text
+put_behind out text at h =
+    let k = length out - at in
+    let all : length (drop at out) ≤ k = rw length-drop (omega arith) in
+    let fits : 0 + length text ≤ length (drop at out) = rw length-drop (omega arith) in
+    let z : 0 + length text ≡ length text = omega arith in
+    rw (take_all k (drop at out) all, sets-eq text (drop at out) 0 fits, z, sets-eq text out at h, drop_all k (drop at out) all, drop-drop (length text) at out, append-nil)
+    (sym (append_assoc (take at out) text (drop (at + length text) out)))
+
+module _ (l out₀ : List ℕ) (s₀ : State) (out : List ℕ) (s : State) (at j : ℕ) (r : Reached l out₀ s₀ out s at (4 * j)) where
+  module _ (w : length l % 4 ≡ 0) (h : j < length l / 4) (room : length l / 4 * line_room ≤ length out₀) (bytes : List ℕ)
+      (e : bytes ≡ get_or (first_chunks 4 (length l / 4) l) j []) where
+    four : bytes ≡ take 4 (drop (4 * j) l)
+    four = e ∙ chunk_at (length l / 4) l j h
+
+    byte_at : (k : ℕ) → k < 4 → get_or bytes k 0 ≡ get_or l (4 * j + k) 0
+    byte_at k i = rw four (get_or-take 4 (drop (4 * j) l) k 0 i ∙ get_or-drop (4 * j) l k 0)
+
+    -- the record at j is worked, with its line in the rest of the buffer
+    pub reached_record : (s₁ : State) (n : ℕ) (rest : List ℕ) → s₁ ≡ after_record s bytes → n ≡ length (record_line s bytes)
+        → rest ≡ sets (take (length out - at) (drop at out)) 0 (record_line s bytes) → n ≤ line_room
+        → Reached l out₀ s₀ (put_mid at (length out - at) out rest) s₁ (at + n) (4 * (j + 1))
+    reached_record s₁ n rest f g t b =
+        let a0 : get_or bytes 0 0 ≡ get_or l (4 * j) 0 = let z : 4 * j + 0 ≡ 4 * j = omega arith in rw z at (byte_at 0 (omega arith)) in
+        let a1 = byte_at 1 (omega arith) in
+        let a2 = byte_at 2 (omega arith) in
+        let a3 = byte_at 3 (omega arith) in
+        let f₁ = rw (a0, a1, a2, a3) at f in
+        let g₁ = rw (a0, a1, a2, a3) at g in
+        let t₁ = rw (a0, a1, a2, a3) at t in
+        let next : 4 * j + 4 ≡ 4 * (j + 1) = omega arith in
+        let put = put_behind out (record_line s bytes) at (omega (arith, r.room, r.size)) in
+        let put₁ = rw (a0, a1, a2, a3) at put in
+        rw (← next)
+        (reached_next l out₀ s₀ out s at (4 * j) r w (omega arith) (put_mid at (length out - at) out rest) s₁ (at + n)
+        f₁ (ap (λ (m : ℕ). at + m) g₁) (rw t₁ put₁) (omega arith))
 
 -- ---- read after read
 

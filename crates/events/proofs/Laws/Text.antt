@@ -1,16 +1,20 @@
 -- The text of a line: its digits, its length, and texts put one behind the other.
-use mathlib.Core.Path.{◌≡◌, refl, sym, ap, ◌∙◌}
-use mathlib.Core.Bool.{Bool, true, false, cond}
+use mathlib.Core.Path.{◌≡◌, refl, sym, ◌∙◌}
+use mathlib.Core.Bool.{Bool, true, false}
 use mathlib.Core.List.{List, [], ◌∷◌, ◌++◌, append_assoc}
 use mathlib.Core.Logic.{◌⊎◌, inl, inr}
-use Prim.Native.Nat.{ℕ, zero, suc, ◌+◌, ◌-◌, ◌*◌, ◌/◌, ◌%◌, ◌≤◌, ◌<◌}
+use Prim.Native.Nat.{ℕ, zero, suc, ◌+◌, ◌-◌, ◌*◌, ◌/◌, ◌%◌, ◌≤◌, ◌<◌, ◌^◌}
 use native.Mathlib.Omega.{arith}
 use lib.Dec.{ltb}
-use lib.ListN.{length, get_or, set, length-append, get_or-append}
-use lib.Seq.{sets}
+use lib.ListN.{length, get_or, set, drop, length-append, length-drop, length-set, get_or-append}
+use lib.Seq.{sets, drop-cons, drop-set-lt}
 use borrow.Author.Tests.{lt-ltb, le-ltb}
+use Rattle.std.specs.Fmt as std
+use Rattle.std.proofs.lemmas.Fmt.{AppendsLastDigit, decimal_from_appends, length-decimal-le}
+use Rattle.std.proofs.lemmas.List.{get_or-set_same}
+use Rattle.std.proofs.lemmas.List.Edits.{sets-eq}
 use Rattle.cases.proofs.Tests.{ltb_case}
-use Rattle.events.specs.Text.{digits, two_digits, decimal, level, field, line_text, line_room}
+use Rattle.events.specs.Text.{digits, decimal, level, field, line_text, line_room}
 
 -- ---- digits
 
@@ -27,42 +31,15 @@ digit_behind : (places n : ℕ) → 10 ≤ n → digits (suc places) n ≡ digit
 unfolding digits
 digit_behind places n h = rw (le-ltb n 10 h)
 
-one_place_more : (places n : ℕ) → n < limit (suc places) → digits (suc (suc places)) n ≡ digits (suc places) n
-unfolding digits
-one_place_more zero n h = last_digit 1 n (omega arith) ∙ sym (last_digit 0 n (omega arith))
-one_place_more (suc places) n h =
-    ap (λ (front : List ℕ). cond (ltb n 10) ((48 + n) ∷ []) (front ++ ((48 + n % 10) ∷ []))) (one_place_more places (n / 10) (omega arith))
-
-pub decimal_of_digit : (n : ℕ) → n < 10 → decimal n ≡ (48 + n) ∷ []
+-- std has the same decimals
+pub decimal_is_std : (n : ℕ) → n < 4294967296 → std.decimal n ≡ decimal n
 unfolding decimal
-decimal_of_digit n h = last_digit 9 n h
-
-decimal_of_more : (n : ℕ) → 10 ≤ n → n < 10000000000 → decimal n ≡ decimal (n / 10) ++ ((48 + n % 10) ∷ [])
-unfolding decimal
-decimal_of_more n a h =
-    digit_behind 9 n a ∙ ap (λ (front : List ℕ). front ++ ((48 + n % 10) ∷ [])) (sym (one_place_more 8 (n / 10) (omega arith)))
-
-pub decimal_of_two : (n : ℕ) → 10 ≤ n → n < 100 → decimal n ≡ two_digits n
-decimal_of_two n a h = rw (decimal_of_more n a (omega arith), decimal_of_digit (n / 10) (omega arith))
-
-pub decimal_of_hundreds : (n : ℕ) → 100 ≤ n → n < 4294967296 → decimal n ≡ decimal (n / 100) ++ two_digits (n % 100)
-decimal_of_hundreds n a h =
-    let e : n / 10 / 10 ≡ n / 100 = omega arith in
-    let f : n % 100 / 10 ≡ n / 10 % 10 = omega arith in
-    let g : n % 100 % 10 ≡ n % 10 = omega arith in
-    rw (decimal_of_more n (omega arith) (omega arith), decimal_of_more (n / 10) (omega arith) (omega arith), e, f, g)
-    (append_assoc (decimal (n / 100)) ((48 + n / 10 % 10) ∷ []) ((48 + n % 10) ∷ []))
+decimal_is_std n h =
+    let k : n < 2 ^ 64 = omega arith in
+    let own : AppendsLastDigit digits = record { one = λ places m i. last_digit places m i; more = λ places m i. digit_behind places m i } in
+    sym (decimal_from_appends digits own 10 n k (length-decimal-le 10 n (omega arith) (omega arith) k))
 
 -- ---- lengths
-
-pub digit_length : (n : ℕ) → n < 10 → length (decimal n) ≡ 1
-digit_length n h = rw (decimal_of_digit n h)
-
-pub two_length : (n : ℕ) → 10 ≤ n → n < 100 → length (decimal n) ≡ 2
-two_length n a h = rw (decimal_of_two n a h)
-
-pub hundreds_length : (n : ℕ) → 100 ≤ n → n < 4294967296 → length (decimal n) ≡ length (decimal (n / 100)) + 2
-hundreds_length n a h = rw (decimal_of_hundreds n a h) (length-append (decimal (n / 100)) (two_digits (n % 100)))
 
 short : (places k n : ℕ) → n < limit (suc k) → length (digits places n) ≤ suc k
 unfolding digits
@@ -112,51 +89,35 @@ pub one_behind_the_other : (l : List ℕ) (at next : ℕ) (first second : List �
 one_behind_the_other l at next [] second e = let z : next ≡ at = omega arith in rw z
 one_behind_the_other l at next (x ∷ first) second e = one_behind_the_other (set l at x) (suc at) next first second (omega arith)
 
-module _ (l : List ℕ) (at n : ℕ) where
-  pub digit_put : n < 10 → (at + 1 ≡ at + length (decimal n)) × (set l at (48 + n) ≡ sets l at (decimal n))
-  digit_put h = rw (decimal_of_digit n h) (refl, refl)
+-- a text at the start of a buffer
+pub line_put : (l text : List ℕ) → length text ≤ length l → text ++ drop (length text) l ≡ sets l 0 text
+line_put l text h =
+    let e : 0 + length text ≡ length text = omega arith in
+    rw (sets-eq text l 0 (omega arith), e)
 
-  pub two_put : (now : List ℕ) → 10 ≤ n → n < 100 → now ≡ sets l at (two_digits n)
-      → (at + 2 ≡ at + length (decimal n)) × (now ≡ sets l at (decimal n))
-  two_put now a h e = rw (decimal_of_two n a h) (refl, e)
+-- ---- a text that grows to the front
 
-  pub number_put : (next : ℕ) (now last : List ℕ) → 100 ≤ n → n < 4294967296
-      → next ≡ at + length (decimal (n / 100)) → now ≡ sets l at (decimal (n / 100)) → last ≡ sets now next (two_digits (n % 100))
-      → (next + 2 ≡ at + length (decimal n)) × (last ≡ sets l at (decimal n))
-  number_put next now last a h e f g =
-      rw (decimal_of_hundreds n a h, g, f)
-      (rw length-append (omega arith), one_behind_the_other l at next (decimal (n / 100)) (two_digits (n % 100)) e)
+pub room_in_front : (bytes : List ℕ) (start n : ℕ) → n < 4294967296 → length bytes ≡ 24 → start ≤ 24
+    → length (decimal n) + length (drop start bytes) ≤ line_room → (length (std.decimal n) ≤ start) × (start ≤ length bytes)
+room_in_front bytes start n h e i room =
+    let d = length-drop start bytes in
+    rw (decimal_is_std n h) (omega arith, omega arith)
 
-  pub field_put : (next : ℕ) (now : List ℕ) → next ≡ at + length (decimal n) → now ≡ sets l at (decimal n)
-      → (next + 1 ≡ at + length (field n)) × (set now next 32 ≡ sets l at (field n))
-  field_put next now e f = rw f (rw length-append (omega arith), one_behind_the_other l at next (decimal n) (32 ∷ []) e)
+pub lengths_add : (first second : List ℕ) → length (first ++ second) ≡ length first + length second
+lengths_add first second = length-append first second
 
--- the last four stores of a line
-last_four : (l : List ℕ) (c i q : ℕ) → set (set (set (set l c i) (c + 1) 32) (c + 2) q) (c + 3) 10 ≡ sets l c (i ∷ 32 ∷ q ∷ 10 ∷ [])
-last_four l c i q =
-    let e : c + 1 ≡ suc c = omega arith in
-    let f : c + 2 ≡ suc (suc c) = omega arith in
-    let g : c + 3 ≡ suc (suc (suc c)) = omega arith in
-    rw (e, f, g)
+pub byte_in_front : (l : List ℕ) (at byte : ℕ) → 0 < at → at ≤ length l → drop (at - 1) (set l (at - 1) byte) ≡ byte ∷ drop at l
+byte_in_front l at byte h i =
+    let k : at - 1 < length l = omega arith in
+    let e : suc (at - 1) ≡ at = omega arith in
+    drop-cons (set l (at - 1) byte) (at - 1) 0 (rw length-set k)
+    ∙ rw (get_or-set_same l (at - 1) byte 0 k, drop-set-lt (suc (at - 1)) l (at - 1) byte (omega arith), e)
 
-module _ (l₀ l₁ l₂ l₃ : List ℕ) (at a b c number answer byte : ℕ) (irq sqw : Bool) (i q : ℕ)
-    (ea : a ≡ at + length (field number)) (e₁ : l₁ ≡ sets l₀ at (field number))
-    (eb : b ≡ a + length (field answer)) (e₂ : l₂ ≡ sets l₁ a (field answer))
-    (ec : c ≡ b + length (field byte)) (e₃ : l₃ ≡ sets l₂ b (field byte))
-    (ei : i ≡ level irq) (eq : q ≡ level sqw) where
-  tail : List ℕ
-  tail = level irq ∷ 32 ∷ level sqw ∷ 10 ∷ []
-
-  pub line_put : (c + 4 ≡ at + length (line_text number answer byte irq sqw))
-      × (set (set (set (set l₃ c i) (c + 1) 32) (c + 2) q) (c + 3) 10 ≡ sets l₀ at (line_text number answer byte irq sqw))
-  unfolding line_text tail
-  line_put = (
-    omega (arith, line_length number answer byte irq sqw),
-    rw (ei, eq, last_four, e₃, e₂, e₁)
-        (one_behind_the_other (sets (sets l₀ at (field number)) a (field answer)) b c (field byte) tail ec
-        ∙ one_behind_the_other (sets l₀ at (field number)) a b (field answer) (field byte ++ tail) eb
-        ∙ one_behind_the_other l₀ at a (field number) (field answer ++ (field byte ++ tail)) ea),
-  )
+pub line_in_parts : (number answer byte : ℕ) (irq sqw : Bool)
+    → line_text number answer byte irq sqw
+    ≡ decimal number ++ (32 ∷ (decimal answer ++ (32 ∷ (decimal byte ++ (32 ∷ level irq ∷ 32 ∷ level sqw ∷ 10 ∷ [])))))
+unfolding line_text
+line_in_parts number answer byte irq sqw = simp append_assoc
 
 -- ---- digits read back
 
