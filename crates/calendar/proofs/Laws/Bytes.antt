@@ -5,7 +5,8 @@ use mathlib.Core.Logic.{◌⊎◌, inl, inr}
 use Prim.Native.Nat.{ℕ, ◌≤◌, ◌<◌}
 use native.Mathlib.Omega.{arith}
 use lib.Dec.{leb}
-use Rattle.cases.proofs.Tests.{either, leb_case}
+use Rattle.std.proofs.lemmas.Bool.{cases_Bool}
+use Rattle.cases.proofs.Tests.{leb_case}
 use Rattle.fields.specs.declared.Mode.{Mode}
 use Rattle.fields.specs.declared.DataMode.{DataMode}
 use Rattle.fields.specs.declared.DataMode.TheVariants.{Bcd, Binary}
@@ -30,7 +31,7 @@ step_below_128 mode b = go (leb_case (byte_of mode 59) b)
 
 pub advance_seconds_below_128 : (m : Mode) (dse used : Bool) (c : Clock) → (advance m dse used c).clock.seconds < 128
 unfolding advance ordinary one_second_on
-advance_seconds_below_128 m dse used c = go (either (dse && springs m c)) (either (dse && repeats m used c))
+advance_seconds_below_128 m dse used c = go (cases_Bool (dse && springs m c)) (cases_Bool (dse && repeats m used c))
   where
     go : (dse && springs m c ≡ true) ⊎ (dse && springs m c ≡ false) → (dse && repeats m used c ≡ true) ⊎ (dse && repeats m used c ≡ false)
         → (advance m dse used c).clock.seconds < 128

@@ -9,7 +9,7 @@ use borrow.Author.Tests.{eqb-true, eq-eqb, ne_eqb}
 use Rattle.fields.specs.declared.Mode.{Mode}
 use Rattle.fields.specs.Bytes.{byte_of}
 use Rattle.fields.specs.Steps.{step}
-use Rattle.cases.proofs.Tests.{either, and_left, and_right}
+use Rattle.std.proofs.lemmas.Bool.{and_parts, cases_Bool}
 use Rattle.fields.proofs.Laws.Bytes.{byte_in_order}
 use Rattle.fields.proofs.Laws.Steps.{step_moves, step_rests}
 use Rattle.calendar.specs.declared.Clock.{Clock}
@@ -32,14 +32,14 @@ spring_goes_to_three m used c s = rw s
 pub spring_is_no_repeat : (m : Mode) (used : Bool) (c : Clock) → springs m c ≡ true → repeats m used c ≡ false
 unfolding springs repeats
 spring_is_no_repeat m used c s =
-    let april = eqb-true c.month (byte_of m.data 4) (and_left (eqb c.month (byte_of m.data 4)) _ (and_right (at_change m c) _ s)) in
+    let april = eqb-true c.month (byte_of m.data 4) ((and_parts (eqb c.month (byte_of m.data 4)) _ ((and_parts (at_change m c) _ s).1)).0) in
     let apart = byte_in_order m.data {x = 4} {y = 10} (omega arith) in
     let not-october = ne_eqb c.month (byte_of m.data 10) (omega arith) in
-    rw (and_left (at_change m c) _ s, not-october)
+    rw ((and_parts (at_change m c) _ s).0, not-october)
 
 pub repeat_goes_to_one : (m : Mode) (used : Bool) (c : Clock) → repeats m used c ≡ true → advance m true used c ≡ record { clock = at_hour m 1 c; used = true }
 unfolding advance
-repeat_goes_to_one m used c r = go (either (springs m c))
+repeat_goes_to_one m used c r = go (cases_Bool (springs m c))
   where
     go : (springs m c ≡ true) ⊎ (springs m c ≡ false)
         → cond (springs m c) (record { clock = at_hour m 3 c; used = used }) (cond (repeats m used c) (record { clock = at_hour m 1 c; used = true }) (ordinary m used c))
@@ -74,7 +74,7 @@ pub mark_after : (m : Mode) (dse used : Bool) (c : Clock)
     → (advance m dse used c).used ≡ (dse && repeats m used c) || (used && eqb (advance m dse used c).clock.date c.date)
 unfolding advance ordinary one_second_on
 mark_after m false used c = ap (λ (t : Bool). used && t) (sym (date_stays m c))
-mark_after m true used c = go (either (springs m c)) (either (repeats m used c))
+mark_after m true used c = go (cases_Bool (springs m c)) (cases_Bool (repeats m used c))
   where
     go : (springs m c ≡ true) ⊎ (springs m c ≡ false) → (repeats m used c ≡ true) ⊎ (repeats m used c ≡ false)
         → (advance m true used c).used ≡ repeats m used c || (used && eqb (advance m true used c).clock.date c.date)

@@ -12,7 +12,8 @@ use lib.Seq.{get_or-set_same, get_or-set_other}
 use borrow.Author.Tests.{le-leb, ne_eqb}
 use Rattle.std.specs.Prelude.{Result, Ok, Err}
 use Rattle.refusals.specs.declared.Refusal.{Refusal}
-use Rattle.cases.proofs.Tests.{either, and_true, and_false, or_false}
+use Rattle.std.proofs.Math.Bool.{and-false, and-true, or-false}
+use Rattle.std.proofs.lemmas.Bool.{cases_Bool}
 use Rattle.refusals.specs.Numbers.{answer_number}
 use Rattle.refusals.proofs.Laws.{refusal_has_number}
 use Rattle.registers.specs.declared.Regs.{Regs}
@@ -32,7 +33,7 @@ use Rattle.chip.proofs.Laws.Locations.{fourteen_registers}
 
 other_read : (r : Regs) (address : ℕ) → (address ≡ 12 → ⊥) → (address ≡ 13 → ⊥) → after_read r address ≡ r
 unfolding after_read
-other_read r address h k = rw (ne_eqb address 12 h, ne_eqb address 13 k, and_true r.pf, and_true r.af, and_true r.uf, or_false r.vrt)
+other_read r address h k = rw (ne_eqb address 12 h, ne_eqb address 13 k, and-true r.pf, and-true r.af, and-true r.uf, or-false r.vrt)
 
 -- only C and D are changed by being read
 pub read_elsewhere_changes_nothing : (chip : Chip) (address : ℕ) → (address ≡ 12 → ⊥) → (address ≡ 13 → ⊥) → (read chip address).chip ≡ chip
@@ -48,14 +49,14 @@ pub read_of_c_clears_flags_alone : (chip : Chip) → access chip.regs 12 ≡ Ok 
     → (read chip 12).chip
     ≡ record { regs = with_flags chip.regs false false false; ram = chip.ram }
 unfolding read after_read
-read_of_c_clears_flags_alone chip o = rw (o, and_false chip.regs.pf, and_false chip.regs.af, and_false chip.regs.uf, or_false chip.regs.vrt)
+read_of_c_clears_flags_alone chip o = rw (o, and-false chip.regs.pf, and-false chip.regs.af, and-false chip.regs.uf, or-false chip.regs.vrt)
 
 -- reading D sets VRT where PS is high and nothing else
 pub read_of_d_sets_vrt_alone : (chip : Chip) → access chip.regs 13 ≡ Ok tt
     → (read chip 13).chip
     ≡ record { regs = with_vrt chip.regs (chip.regs.vrt || not chip.regs.pslow); ram = chip.ram }
 unfolding read after_read
-read_of_d_sets_vrt_alone chip o = rw (o, and_true chip.regs.pf, and_true chip.regs.af, and_true chip.regs.uf)
+read_of_d_sets_vrt_alone chip o = rw (o, and-true chip.regs.pf, and-true chip.regs.af, and-true chip.regs.uf)
 
 -- ---- writes
 
@@ -128,7 +129,7 @@ read_leaves_ram chip address = go (access chip.regs address)
 
 pub run_leaves_ram : (chip : Chip) (n : ℕ) → (run chip n).chip.ram ≡ chip.ram
 unfolding run
-run_leaves_ram chip n = go (either (ltb 65536 n))
+run_leaves_ram chip n = go (cases_Bool (ltb 65536 n))
   where
     go : (ltb 65536 n ≡ true) ⊎ (ltb 65536 n ≡ false) → (run chip n).chip.ram ≡ chip.ram
     go (inl t) = rw t

@@ -6,7 +6,7 @@ use Prim.Native.Nat.{ℕ, ◌<◌}
 use native.Mathlib.Omega.{arith}
 use lib.Dec.{eqb, leb, ltb}
 use Rattle.std.specs.Prelude.{Result, Ok, Err}
-use Rattle.cases.proofs.Tests.{either}
+use Rattle.std.proofs.lemmas.Bool.{cases_Bool}
 use Rattle.refusals.specs.declared.Refusal.{Refusal}
 use Rattle.refusals.specs.Numbers.{number_of, answer_number}
 use Rattle.divider.specs.Divider.{test_pattern}
@@ -34,7 +34,7 @@ write_verdict : (chip : Chip) (address value : ℕ)
     → answer_number (write_access chip.regs address value)
     ≡ access_number chip address (cond (eqb address 12 || eqb address 13) 5 (cond (eqb address 10 && test_pattern (dv_of value)) 6 0))
 unfolding write_access access
-write_verdict chip address value = go (either (ltb 63 address)) (either chip.regs.resetlow) (either (leb address 9 && closed chip.regs))
+write_verdict chip address value = go (cases_Bool (ltb 63 address)) (cases_Bool chip.regs.resetlow) (cases_Bool (leb address 9 && closed chip.regs))
   where
     go : (ltb 63 address ≡ true) ⊎ (ltb 63 address ≡ false) → (chip.regs.resetlow ≡ true) ⊎ (chip.regs.resetlow ≡ false)
         → (leb address 9 && closed chip.regs ≡ true) ⊎ (leb address 9 && closed chip.regs ≡ false)
@@ -70,7 +70,7 @@ write_refusals chip address value = rw (write_by_number (write_access chip.regs 
 
 pub run_refusals : (chip : Chip) (n : ℕ) → answer_number (run chip n).answer ≡ cond (ltb 65536 n) 7 0
 unfolding run
-run_refusals chip n = go (either (ltb 65536 n))
+run_refusals chip n = go (cases_Bool (ltb 65536 n))
   where
     go : (ltb 65536 n ≡ true) ⊎ (ltb 65536 n ≡ false) → answer_number (run chip n).answer ≡ cond (ltb 65536 n) 7 0
     go (inl t) = rw t
@@ -96,7 +96,7 @@ refused_write_changes_nothing chip address value h = go (write_access chip.regs 
 
 pub refused_run_changes_nothing : (chip : Chip) (n : ℕ) → 0 < answer_number (run chip n).answer → (run chip n).chip ≡ chip
 unfolding run
-refused_run_changes_nothing chip n h = go (either (ltb 65536 n)) h
+refused_run_changes_nothing chip n h = go (cases_Bool (ltb 65536 n)) h
   where
     go : (ltb 65536 n ≡ true) ⊎ (ltb 65536 n ≡ false) → 0 < answer_number (run chip n).answer → (run chip n).chip ≡ chip
     go (inl t) h = rw t

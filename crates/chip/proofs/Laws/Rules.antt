@@ -9,7 +9,9 @@ use lib.ListN.{length, set, length-set, length-replicate}
 use borrow.Author.Tests.{le-leb, lt-leb}
 use Rattle.std.specs.Prelude.{Result, Ok, Err}
 use Rattle.refusals.specs.declared.Refusal.{Refusal}
-use Rattle.cases.proofs.Tests.{either, leb_case, and_false}
+use Rattle.std.proofs.Math.Bool.{and-false}
+use Rattle.std.proofs.lemmas.Bool.{cases_Bool}
+use Rattle.cases.proofs.Tests.{leb_case}
 use Rattle.registers.specs.declared.Regs.{Regs}
 use Rattle.registers.specs.Bits.{dv_of, pie_on, aie_on, uie_on}
 use Rattle.registers.specs.Lines.{irqf}
@@ -57,7 +59,7 @@ off false n h e = refl
 
 no_flags_no_irqf : (r : Regs) → r.pf ≡ false → r.af ≡ false → r.uf ≡ false → register_c r ≡ 0
 unfolding irqf
-no_flags_no_irqf r p a u = rw (p, a, u, and_false (pie_on r.b), and_false (aie_on r.b), and_false (uie_on r.b))
+no_flags_no_irqf r p a u = rw (p, a, u, and-false (pie_on r.b), and-false (aie_on r.b), and-false (uie_on r.b))
 
 -- ---- the rules and the registers
 
@@ -142,7 +144,7 @@ ticks_keep_rules n chip k = rw (ticks_work_on_registers n chip) (same_ram chip _
 
 pub run_keeps_rules : (chip : Chip) (n : ℕ) → Rules chip → Rules (run chip n).chip
 unfolding run
-run_keeps_rules chip n k = go (either (ltb 65536 n))
+run_keeps_rules chip n k = go (cases_Bool (ltb 65536 n))
   where
     go : (ltb 65536 n ≡ true) ⊎ (ltb 65536 n ≡ false) → Rules (run chip n).chip
     go (inl t) = rw t k

@@ -6,6 +6,7 @@ use native.Mathlib.Nat.{dvd-mul_left, mod-mod_of_dvd, add-mod_right, mul-mod_lef
 use native.Mathlib.Omega.{arith}
 use lib.Dec.{ltb, eqb}
 use borrow.Author.Tests.{ltb-true, lt-ltb, eqb-true, eq-eqb}
+use Rattle.std.proofs.lemmas.Bool.{both_ways}
 use Rattle.std.specs.Prelude.{Option, Some, None}
 use Rattle.divider.specs.declared.Base.{Base}
 use Rattle.divider.specs.declared.Base.TheVariants.{Fastest, Middle, Slowest}
@@ -21,16 +22,13 @@ pub record Kept (base : Option Base) (d : Divider) : Type 0 where
   pub on_step : running base ≡ true → count_of d % step_of base ≡ 0
   pub held : running base ≡ false → count_of d ≡ half
 
-not_both : (b : Bool) → b ≡ true → b ≡ false → ⊥
-not_both b p q = true≢false (sym p ∙ q)
-
 kept_running : (base : Option Base) (d : Divider) → running base ≡ true → count_of d < span → count_of d % step_of base ≡ 0 → Kept base d
 kept_running base d r l m =
-    record { below_span = l; on_step = λ _. m; held = λ h. absurd (not_both (running base) r h) }
+    record { below_span = l; on_step = λ _. m; held = λ h. absurd (both_ways (running base) h r) }
 
 kept_held : (base : Option Base) (d : Divider) → running base ≡ false → count_of d ≡ half → Kept base d
 kept_held base d h e =
-    record { below_span = omega arith; on_step = λ r. absurd (not_both (running base) r h); held = λ _. e }
+    record { below_span = omega arith; on_step = λ r. absurd (both_ways (running base) h r); held = λ _. e }
 
 pub keeps_count_gives_kept : (base : Option Base) (d : Divider) → keeps_count base d ≡ true → Kept base d
 keeps_count_gives_kept base d k = go (running base) refl (rw (keeps_count_by_count base d) at k)
@@ -40,7 +38,7 @@ keeps_count_gives_kept base d k = go (running base) refl (rw (keeps_count_by_cou
       where
         both : (b : Bool) → ltb (count_of d) span ≡ b → b && eqb (count_of d % step_of base) 0 ≡ true → Kept base d
         both true l m = kept_running base d r (ltb-true _ _ l) (eqb-true _ _ m)
-        both false l m = absurd (not_both false m refl)
+        both false l m = absurd (both_ways false refl m)
     go false r k = kept_held base d r (eqb-true (count_of d) half k)
 
 pub kept_gives_keeps_count : (base : Option Base) (d : Divider) → Kept base d → keeps_count base d ≡ true

@@ -6,7 +6,8 @@ use Prim.Native.Nat.{ℕ, ◌+◌, ◌-◌, ◌*◌, ◌/◌, ◌%◌, ◌≤◌
 use native.Mathlib.Omega.{arith}
 use lib.Dec.{leb, ltb, eqb}
 use borrow.Author.Tests.{eq-eqb, ne_eqb, ltb-true, lt-ltb}
-use Rattle.cases.proofs.Tests.{leb_case, eqb_case, and_left, and_right, and_both}
+use Rattle.std.proofs.lemmas.Bool.{and_from, and_parts}
+use Rattle.cases.proofs.Tests.{leb_case, eqb_case}
 use Rattle.fields.proofs.Laws.Bytes.{Digits, value_of_byte, byte_of_value, byte_has_digits, leb_of_byte, next_is_one_more, value_small}
 use Rattle.fields.proofs.Laws.Ranges.{InRange, range_test, range_fact, byte_in_range}
 use Rattle.fields.proofs.Laws.Steps.{carry_of, step_adds}
@@ -32,14 +33,14 @@ HourInRange m b = HourFacts m.data m.hours b
 
 test_by : (mode : DataMode) (hours : HourMode) (b : ℕ) → HourFacts mode hours b → hour_in_range (mode_by mode hours) b ≡ true
 test_by mode TwentyFour b r = range_test mode 0 23 b r
-test_by mode Twelve b r = and_both (lt-ltb b 256 r.0) (range_test mode 1 12 (b % 128) r.1)
+test_by mode Twelve b r = and_from _ _ (lt-ltb b 256 r.0) (range_test mode 1 12 (b % 128) r.1)
 
 pub hour_test : (m : Mode) (b : ℕ) → HourInRange m b → hour_in_range m b ≡ true
 hour_test m b r = test_by m.data m.hours b r
 
 fact_by : (mode : DataMode) (hours : HourMode) (b : ℕ) → hour_in_range (mode_by mode hours) b ≡ true → HourFacts mode hours b
 fact_by mode TwentyFour b e = range_fact mode 0 23 b e
-fact_by mode Twelve b e = (ltb-true b 256 (and_left (ltb b 256) _ e), range_fact mode 1 12 (b % 128) (and_right (ltb b 256) _ e))
+fact_by mode Twelve b e = (ltb-true b 256 ((and_parts (ltb b 256) _ e).0), range_fact mode 1 12 (b % 128) ((and_parts (ltb b 256) _ e).1))
 
 pub hour_fact : (m : Mode) (b : ℕ) → hour_in_range m b ≡ true → HourInRange m b
 hour_fact m b e = fact_by m.data m.hours b e

@@ -5,7 +5,7 @@ use Prim.Native.Nat.{ℕ, ◌%◌, ◌≤◌}
 use native.Mathlib.Omega.{arith}
 use lib.Dec.{leb}
 use borrow.Author.Tests.{leb-true, le-leb, ltb-true, lt-ltb}
-use Rattle.cases.proofs.Tests.{and_left, and_right, and_both}
+use Rattle.std.proofs.lemmas.Bool.{and_from, and_parts}
 use Rattle.fields.proofs.Laws.Bytes.{Digits, value_of_byte, byte_has_digits}
 use Rattle.fields.specs.declared.DataMode.{DataMode}
 use Rattle.fields.specs.declared.DataMode.TheVariants.{Bcd, Binary}
@@ -26,15 +26,15 @@ digits_fact Bcd b e = ltb-true (b % 16) 10 e
 
 pub range_test : (mode : DataMode) (first last b : ℕ) → InRange mode first last b → in_range mode first last b ≡ true
 range_test mode first last b r =
-    and_both (digits_test mode b r.digits) (and_both (le-leb first (value_of mode b) r.low) (le-leb (value_of mode b) last r.high))
+    and_from _ _ (digits_test mode b r.digits) (and_from _ _ (le-leb first (value_of mode b) r.low) (le-leb (value_of mode b) last r.high))
 
 pub range_fact : (mode : DataMode) (first last b : ℕ) → in_range mode first last b ≡ true → InRange mode first last b
 range_fact mode first last b e =
-    let r = and_right (has_digits mode b) _ e in
+    let r = (and_parts (has_digits mode b) _ e).1 in
     record {
-      digits = digits_fact mode b (and_left (has_digits mode b) _ e);
-      low = leb-true first (value_of mode b) (and_left (leb first (value_of mode b)) _ r);
-      high = leb-true (value_of mode b) last (and_right (leb first (value_of mode b)) _ r);
+      digits = digits_fact mode b ((and_parts (has_digits mode b) _ e).0);
+      low = leb-true first (value_of mode b) ((and_parts (leb first (value_of mode b)) _ r).0);
+      high = leb-true (value_of mode b) last ((and_parts (leb first (value_of mode b)) _ r).1);
     }
 
 pub byte_in_range : (mode : DataMode) (first last x : ℕ) → first ≤ x → x ≤ last → InRange mode first last (byte_of mode x)

@@ -5,7 +5,8 @@ use mathlib.Core.Logic.{◌⊎◌, inl, inr}
 use Prim.Native.Nat.{ℕ, ◌+◌, ◌*◌, ◌/◌, ◌%◌, ◌<◌}
 use native.Mathlib.Omega.{arith}
 use lib.Dec.{eqb}
-use Rattle.cases.proofs.Tests.{either, eqb_case, false_is_not_true}
+use Rattle.std.proofs.lemmas.Bool.{cases_Bool, false≢true}
+use Rattle.cases.proofs.Tests.{eqb_case}
 use Rattle.std.specs.Prelude.{None, Ok}
 use Rattle.divider.specs.Divider as divider
 use Rattle.divider.proofs.Laws.Keeps.{keeps_count_gives_kept, kept_gives_keeps_count, based_keeps, fresh_keeps}
@@ -50,9 +51,9 @@ fresh_is_sound =
       pf = λ e. refl;
       af = λ e. refl;
       uf = λ e. refl;
-      set = λ e. false_is_not_true e;
-      runs = λ e. false_is_not_true e;
-      before_the_end = λ e. false_is_not_true e;
+      set = λ e. absurd (false≢true e);
+      runs = λ e. absurd (false≢true e);
+      before_the_end = λ e. absurd (false≢true e);
     }
 
 -- ---- reads and pins
@@ -96,7 +97,7 @@ and_not true false e = refl
 and_not false y e = refl
 
 low_enables : (b : ℕ) (reset : Bool) → not reset ≡ true → cond reset b (b / 128 * 128 + b % 8) / 8 % 16 ≡ 0
-low_enables b true e = false_is_not_true e
+low_enables b true e = absurd (false≢true e)
 low_enables b false e = enables_out b
 
 pub pins_keep_sound : (r : Regs) (reset ps : Bool) → Sound r → Sound (with_pins r reset ps)
@@ -156,9 +157,9 @@ a_keeps_sound r value p s = go (eqb_case (dv_of value) (dv_of r.a))
           pf = s.pf;
           af = s.af;
           uf = s.uf;
-          set = rw t.1 (λ e. false_is_not_true e);
-          runs = rw t.1 (λ e. false_is_not_true e);
-          before_the_end = rw t.1 (λ e. false_is_not_true e);
+          set = rw t.1 (λ e. absurd (false≢true e));
+          runs = rw t.1 (λ e. absurd (false≢true e));
+          before_the_end = rw t.1 (λ e. absurd (false≢true e));
         }
 
 set_not_risen : (r : Regs) (value : ℕ) → set_rises r value ≡ false → set_on r.b ≡ false → set_on value ≡ false
@@ -170,10 +171,10 @@ set_not_risen r value e f = go (set_on value) refl
 
 b_keeps_sound : (r : Regs) (value : ℕ) → r.resetlow ≡ false → Sound r → Sound (write_b r value)
 unfolding write_b
-b_keeps_sound r value up s = go (either (set_rises r value))
+b_keeps_sound r value up s = go (cases_Bool (set_rises r value))
   where
     low : {A : Type 0} → r.resetlow ≡ true → A
-    low e = false_is_not_true (sym up ∙ e)
+    low e = absurd (false≢true (sym up ∙ e))
 
     go : (set_rises r value ≡ true) ⊎ (set_rises r value ≡ false) → Sound (write_b r value)
     go (inl t) =
@@ -187,9 +188,9 @@ b_keeps_sound r value up s = go (either (set_rises r value))
           pf = s.pf;
           af = s.af;
           uf = s.uf;
-          set = rw t (λ e. false_is_not_true e);
-          runs = rw t (λ e. false_is_not_true e);
-          before_the_end = rw t (λ e. false_is_not_true e);
+          set = rw t (λ e. absurd (false≢true e));
+          runs = rw t (λ e. absurd (false≢true e));
+          before_the_end = rw t (λ e. absurd (false≢true e));
         }
     go (inr t) =
         record {

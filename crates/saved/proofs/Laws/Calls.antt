@@ -9,7 +9,8 @@ use lib.Dec.{eqb}
 use lib.ListN.{length, take, drop, length-append, length-drop}
 use lib.Seq.{length-take-le, take_at, drop_at}
 use borrow.Author.Tests.{eq-eqb, ne_eqb, le-leb, lt-leb}
-use Rattle.cases.proofs.Tests.{either, eqb_case}
+use Rattle.std.proofs.lemmas.Bool.{cases_Bool}
+use Rattle.cases.proofs.Tests.{eqb_case}
 use Rattle.std.specs.Prelude.{Result, Ok, Err}
 use Rattle.refusals.specs.declared.Refusal.{Refusal}
 use Rattle.refusals.specs.declared.Refusal.TheVariants as refusal
@@ -33,7 +34,7 @@ refused_is_not_loaded e = let z : ◌≡◌ {A = ℕ} 0 1 = cc in absurd (omega 
 
 loaded_keeps_record_rules : (l : List ℕ) (chip : Chip) → load l ≡ Ok chip → (length l ≡ record_size) × RecordRules l
 unfolding load
-loaded_keeps_record_rules l chip e = go (eqb_case (length l) record_size) (either (keeps_rules l))
+loaded_keeps_record_rules l chip e = go (eqb_case (length l) record_size) (cases_Bool (keeps_rules l))
   where
     go : ((length l ≡ record_size) × (eqb (length l) record_size ≡ true)) ⊎ ((length l ≡ record_size → ⊥) × (eqb (length l) record_size ≡ false))
         → (keeps_rules l ≡ true) ⊎ (keeps_rules l ≡ false) → (length l ≡ record_size) × RecordRules l
@@ -54,7 +55,7 @@ load_refuses_length l size = rw (ne_eqb _ _ size)
 
 pub load_refuses_rules : (l : List ℕ) → length l ≡ record_size → (RecordRules l → ⊥) → load l ≡ Err refusal.Rules
 unfolding load
-load_refuses_rules l size broken = rw (eq-eqb _ _ size, go (either (keeps_rules l)))
+load_refuses_rules l size broken = rw (eq-eqb _ _ size, go (cases_Bool (keeps_rules l)))
   where
     go : (keeps_rules l ≡ true) ⊎ (keeps_rules l ≡ false) → keeps_rules l ≡ false
     go (inl k) = absurd (broken (rules_fact l k))

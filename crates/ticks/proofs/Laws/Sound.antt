@@ -3,7 +3,7 @@ use mathlib.Core.Path.{◌≡◌, refl, sym}
 use mathlib.Core.Bool.{Bool, true, false, cond, ◌&&◌, ◌||◌, not}
 use mathlib.Core.Logic.{◌⊎◌, inl, inr}
 use Prim.Native.Nat.{ℕ, zero, suc}
-use Rattle.cases.proofs.Tests.{either, false_is_not_true}
+use Rattle.std.proofs.lemmas.Bool.{cases_Bool, false≢true}
 use Rattle.calendar.specs.Update.{update}
 use Rattle.calendar.proofs.Laws.Bytes.{advance_seconds_below_128}
 use Rattle.divider.specs.Divider.{running, moved, rose, at_zero, at_end, keeps_count}
@@ -28,7 +28,7 @@ waits_with_set_0 : (waits nought set : Bool) → (waits ≡ true → set ≡ fal
 waits_with_set_0 true nought set f e = f refl
 waits_with_set_0 false true true f e = sym e
 waits_with_set_0 false true false f e = refl
-waits_with_set_0 false false set f e = false_is_not_true e
+waits_with_set_0 false false set f e = absurd (false≢true e)
 
 -- what is pending once the count has moved was pending, or the count is at 0
 waits_or_zero : (waits nought set : Bool) → waits || (nought && not set) ≡ true → nought || waits ≡ true
@@ -60,9 +60,9 @@ module _ (r : Regs) (s : Sound r) (on : running (base_of r.a) ≡ true) where
         pf = λ e. stays_down r.pf (rose (base_of r.a) (rate_of r.a) (moved (base_of r.a) r.divider)) r.resetlow s.pf e;
         af = λ e. stays_down r.af (new_time r).matched r.resetlow s.af e;
         uf = λ e. down_too r.uf r.resetlow s.uf e;
-        set = λ e. false_is_not_true e;
-        runs = λ e. false_is_not_true e;
-        before_the_end = λ e. false_is_not_true e;
+        set = λ e. absurd (false≢true e);
+        runs = λ e. absurd (false≢true e);
+        before_the_end = λ e. absurd (false≢true e);
       }
 
   waiting_is_sound : ((awaiting (flagged (counted r))).pending && at_end (base_of r.a) (moved (base_of r.a) r.divider) ≡ false) → Sound (awaiting (flagged (counted r)))
@@ -89,7 +89,7 @@ module _ (r : Regs) (s : Sound r) (on : running (base_of r.a) ≡ true) where
 
 pub tick_keeps_sound : (r : Regs) → Sound r → Sound (tick r)
 unfolding tick finished
-tick_keeps_sound r s = go (either (running (base_of r.a)))
+tick_keeps_sound r s = go (cases_Bool (running (base_of r.a)))
   where
     moved_on : Regs
     moved_on = awaiting (flagged (counted r))
@@ -99,7 +99,7 @@ tick_keeps_sound r s = go (either (running (base_of r.a)))
 
     go : (running (base_of r.a) ≡ true) ⊎ (running (base_of r.a) ≡ false) → Sound (tick r)
     go (inr off) = rw off s
-    go (inl on) = rw on (ended (either (moved_on.pending && at_end (base_of moved_on.a) moved_on.divider)))
+    go (inl on) = rw on (ended (cases_Bool (moved_on.pending && at_end (base_of moved_on.a) moved_on.divider)))
       where
         ended : (moved_on.pending && at_end (base_of moved_on.a) moved_on.divider ≡ true) ⊎ (moved_on.pending && at_end (base_of moved_on.a) moved_on.divider ≡ false)
             → Sound (cond (moved_on.pending && at_end (base_of moved_on.a) moved_on.divider) (updated moved_on) moved_on)

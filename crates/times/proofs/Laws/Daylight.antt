@@ -11,7 +11,7 @@ use Rattle.fields.specs.declared.DataMode.{DataMode}
 use Rattle.fields.specs.declared.DataMode.TheVariants.{Bcd, Binary}
 use Rattle.fields.specs.Bytes.{value_of, byte_of}
 use Rattle.fields.specs.Hours.{hour_byte}
-use Rattle.cases.proofs.Tests.{either, and_left, and_right}
+use Rattle.std.proofs.lemmas.Bool.{and_parts, cases_Bool}
 use Rattle.fields.proofs.Laws.Bytes.{value_of_byte}
 use Rattle.fields.proofs.Laws.Ranges.{InRange, byte_in_range}
 use Rattle.fields.proofs.Laws.Hours.{hour_of_byte}
@@ -47,11 +47,11 @@ full_hour_told m hour c h = let z = (zero_in_range m.data 59).1 in rw ((hour_of_
 -- the clock is a second before two
 change_told : (m : Mode) (c : Clock) → at_change m c ≡ true → seconds_of m c ≡ (day_number m c * 24 + 1) * 3600 + 3599
 change_told m c e =
-    let e1 = and_right (eqb c.weekday 1) _ e in
-    let e2 = and_right (eqb c.hours (hour_byte m 1)) _ e1 in
-    let h = eqb-true c.hours (hour_byte m 1) (and_left (eqb c.hours (hour_byte m 1)) _ e1) in
-    let n = eqb-true c.minutes (byte_of m.data 59) (and_left (eqb c.minutes (byte_of m.data 59)) _ e2) in
-    let s = eqb-true c.seconds (byte_of m.data 59) (and_right (eqb c.minutes (byte_of m.data 59)) _ e2) in
+    let e1 = (and_parts (eqb c.weekday 1) _ e).1 in
+    let e2 = (and_parts (eqb c.hours (hour_byte m 1)) _ e1).1 in
+    let h = eqb-true c.hours (hour_byte m 1) ((and_parts (eqb c.hours (hour_byte m 1)) _ e1).0) in
+    let n = eqb-true c.minutes (byte_of m.data 59) ((and_parts (eqb c.minutes (byte_of m.data 59)) _ e2).0) in
+    let s = eqb-true c.seconds (byte_of m.data 59) ((and_parts (eqb c.minutes (byte_of m.data 59)) _ e2).1) in
     rw (h, n, s, (hour_of_byte m 1 (omega arith)).0, value_of_byte m.data 59) (omega arith)
 
 -- ---- the laws
@@ -63,7 +63,7 @@ pub spring_skips_an_hour : (m : Mode) (used : Bool) (c : Clock) → is_valid m c
 unfolding time_of springs
 spring_skips_an_hour m used c e s =
     let a = ap (λ (x : Advanced). x.clock) (spring_goes_to_three m used c s) in
-    let t = change_told m c (and_left (at_change m c) _ s) in
+    let t = change_told m c ((and_parts (at_change m c) _ s).0) in
     let f = full_hour_told m 3 c (omega arith) in
     let q : seconds_of m (at_hour m 3 c) ≡ seconds_of m c + 3601 = omega arith in
     rw a (valid_test m _ (full_hour_valid m 3 c (omega arith) (valid_fact m c e)), λ i. record { weekday = value_of m.data c.weekday; seconds = q i })
@@ -75,7 +75,7 @@ pub repeat_goes_back : (m : Mode) (used : Bool) (c : Clock) → is_valid m c ≡
 unfolding time_of repeats
 repeat_goes_back m used c e r =
     let a = ap (λ (x : Advanced). x.clock) (repeat_goes_to_one m used c r) in
-    let t = change_told m c (and_left (at_change m c) _ r) in
+    let t = change_told m c ((and_parts (at_change m c) _ r).0) in
     let f = full_hour_told m 1 c (omega arith) in
     let q : seconds_of m (at_hour m 1 c) + 3599 ≡ seconds_of m c = omega arith in
     rw a (valid_test m _ (full_hour_valid m 1 c (omega arith) (valid_fact m c e)), λ i. record { weekday = value_of m.data c.weekday; seconds = q i })
@@ -84,7 +84,7 @@ repeat_goes_back m used c e r =
 pub advance_keeps_valid : (m : Mode) (dse used : Bool) (c : Clock) → is_valid m c ≡ true → is_valid m (advance m dse used c).clock ≡ true
 unfolding ordinary
 advance_keeps_valid m false used c e = rw off_is_ordinary (valid_test m _ (second_valid m c (valid_fact m c e)))
-advance_keeps_valid m true used c e = go (either (springs m c)) (either (repeats m used c))
+advance_keeps_valid m true used c e = go (cases_Bool (springs m c)) (cases_Bool (repeats m used c))
   where
     go : (springs m c ≡ true) ⊎ (springs m c ≡ false) → (repeats m used c ≡ true) ⊎ (repeats m used c ≡ false) → is_valid m (advance m true used c).clock ≡ true
     go (inl s) r = (spring_skips_an_hour m used c e s).0

@@ -8,7 +8,7 @@ use Rattle.fields.specs.declared.Mode.{Mode}
 use Rattle.fields.specs.declared.DataMode.{DataMode}
 use Rattle.fields.specs.Bytes.{value_of, in_range}
 use Rattle.fields.specs.Hours.{hour_in_range}
-use Rattle.cases.proofs.Tests.{and_left, and_right, and_both}
+use Rattle.std.proofs.lemmas.Bool.{and_from, and_parts}
 use Rattle.fields.proofs.Laws.Ranges.{InRange, range_test, range_fact}
 use Rattle.fields.proofs.Laws.Hours.{HourInRange, hour_test, hour_fact}
 use Rattle.calendar.specs.declared.Clock.{Clock}
@@ -29,30 +29,30 @@ pub record Valid (m : Mode) (c : Clock) : Type 0 where
 pub valid_test : (m : Mode) (c : Clock) → Valid m c → is_valid m c ≡ true
 unfolding is_valid
 valid_test m c v =
-    and_both (range_test _ 0 59 _ v.seconds)
-    (and_both (range_test _ 0 59 _ v.minutes)
-    (and_both (hour_test m _ v.hours)
-    (and_both (range_test _ 1 7 _ v.weekday)
-    (and_both (range_test _ 1 12 _ v.month)
-    (and_both (range_test _ 0 99 _ v.year)
+    and_from _ _ (range_test _ 0 59 _ v.seconds)
+    (and_from _ _ (range_test _ 0 59 _ v.minutes)
+    (and_from _ _ (hour_test m _ v.hours)
+    (and_from _ _ (range_test _ 1 7 _ v.weekday)
+    (and_from _ _ (range_test _ 1 12 _ v.month)
+    (and_from _ _ (range_test _ 0 99 _ v.year)
     (range_test _ 1 _ _ v.date))))))
 
 pub valid_fact : (m : Mode) (c : Clock) → is_valid m c ≡ true → Valid m c
 unfolding is_valid
 valid_fact m c e =
-    let e1 = and_right (in_range m.data 0 59 c.seconds) _ e in
-    let e2 = and_right (in_range m.data 0 59 c.minutes) _ e1 in
-    let e3 = and_right (hour_in_range m c.hours) _ e2 in
-    let e4 = and_right (in_range m.data 1 7 c.weekday) _ e3 in
-    let e5 = and_right (in_range m.data 1 12 c.month) _ e4 in
+    let e1 = (and_parts (in_range m.data 0 59 c.seconds) _ e).1 in
+    let e2 = (and_parts (in_range m.data 0 59 c.minutes) _ e1).1 in
+    let e3 = (and_parts (hour_in_range m c.hours) _ e2).1 in
+    let e4 = (and_parts (in_range m.data 1 7 c.weekday) _ e3).1 in
+    let e5 = (and_parts (in_range m.data 1 12 c.month) _ e4).1 in
     record {
-      seconds = range_fact _ 0 59 _ (and_left (in_range m.data 0 59 c.seconds) _ e);
-      minutes = range_fact _ 0 59 _ (and_left (in_range m.data 0 59 c.minutes) _ e1);
-      hours = hour_fact m _ (and_left (hour_in_range m c.hours) _ e2);
-      weekday = range_fact _ 1 7 _ (and_left (in_range m.data 1 7 c.weekday) _ e3);
-      month = range_fact _ 1 12 _ (and_left (in_range m.data 1 12 c.month) _ e4);
-      year = range_fact _ 0 99 _ (and_left (in_range m.data 0 99 c.year) _ e5);
-      date = range_fact _ 1 _ _ (and_right (in_range m.data 0 99 c.year) _ e5);
+      seconds = range_fact _ 0 59 _ ((and_parts (in_range m.data 0 59 c.seconds) _ e).0);
+      minutes = range_fact _ 0 59 _ ((and_parts (in_range m.data 0 59 c.minutes) _ e1).0);
+      hours = hour_fact m _ ((and_parts (hour_in_range m c.hours) _ e2).0);
+      weekday = range_fact _ 1 7 _ ((and_parts (in_range m.data 1 7 c.weekday) _ e3).0);
+      month = range_fact _ 1 12 _ ((and_parts (in_range m.data 1 12 c.month) _ e4).0);
+      year = range_fact _ 0 99 _ ((and_parts (in_range m.data 0 99 c.year) _ e5).0);
+      date = range_fact _ 1 _ _ ((and_parts (in_range m.data 0 99 c.year) _ e5).1);
     }
 
 -- at valid month and year bytes the last day is that of the numbers
@@ -80,14 +80,14 @@ pub record Timely (t : Time) : Type 0 where
 
 pub time_test : (t : Time) → Timely t → is_time t ≡ true
 unfolding is_time
-time_test t h = and_both (le-leb 1 _ h.sunday) (and_both (le-leb _ 7 h.saturday) (lt-ltb _ century h.within))
+time_test t h = and_from _ _ (le-leb 1 _ h.sunday) (and_from _ _ (le-leb _ 7 h.saturday) (lt-ltb _ century h.within))
 
 pub time_fact : (t : Time) → is_time t ≡ true → Timely t
 unfolding is_time
 time_fact t e =
-    let r = and_right (leb 1 t.weekday) _ e in
+    let r = (and_parts (leb 1 t.weekday) _ e).1 in
     record {
-      sunday = leb-true 1 _ (and_left (leb 1 t.weekday) _ e);
-      saturday = leb-true _ 7 (and_left (leb t.weekday 7) _ r);
-      within = ltb-true _ century (and_right (leb t.weekday 7) _ r);
+      sunday = leb-true 1 _ ((and_parts (leb 1 t.weekday) _ e).0);
+      saturday = leb-true _ 7 ((and_parts (leb t.weekday 7) _ r).0);
+      within = ltb-true _ century ((and_parts (leb t.weekday 7) _ r).1);
     }
