@@ -49,7 +49,8 @@ pub struct Advanced {
     pub used: bool,
 }
 
-/// What an update leaves: the clock, the mark of the repeated hour, and whether the alarm matches.
+/// What an update leaves: the clock, the mark of the repeated hour, and whether the alarm matches. Not an `Advanced` with a flag beside it: what is
+/// promised of an update is one record of three.
 #[derive(Clone, Copy, Debug, PartialEq, Eq)]
 pub struct Updated {
     /// The clock after the update.
@@ -70,7 +71,7 @@ fn is_leap(data: DataMode, year: u8) -> bool
     data.is_in_range(0, 99, year) && data.value(year) % 4 == 0
 }
 
-/// The last day of a month from 1 to 12.
+/// The last day of a month from 1 to 12. The month is a number, as its bytes and its table have it: a type of its own would ask callers for one.
 #[tactic(auto, using(crate::proofs::Laws::Days::february_29, crate::proofs::Laws::Days::table_has_the_rest), unfolding(crate::specs::Days::last_days))]
 pub fn last_day(leap: bool, month: u8) -> u8
     requires { (1 ≤ month) × (month ≤ 12) }
@@ -79,7 +80,7 @@ pub fn last_day(leap: bool, month: u8) -> u8
     if leap && month == 2 {
         29
     } else {
-        LAST_DAYS[month as usize - 1]
+        LAST_DAYS[usize::from(month) - 1]
     }
 }
 
@@ -187,6 +188,8 @@ impl Clock {
             ..self
         }
     }
+
+    // Two functions for the two changes: as one it would be told the month, the dates and whether a mark counts, as no plainer call.
 
     /// Whether the spring change is due: on a Sunday from 24 to 30 April.
     #[tactic(auto, unfolding(crate::specs::Daylight::springs))]

@@ -45,6 +45,7 @@ impl Chip {
         requires { address < 64 }
         ensures { result ≡ location self.now address }
     {
+        // There is no `From<u32>` for `usize`; an address below 64 keeps its number.
         if address >= 14 {
             return self.ram[address as usize - 14];
         }

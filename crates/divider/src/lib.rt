@@ -175,6 +175,8 @@ impl Divider {
         rate != 0 && bit_at(self.count, tap) == 1
     }
 
+    // Five tests in place of one that is told a range: each is a rule of the specification by its name.
+
     /// Whether the count is 0, at which an update may become pending.
     #[tactic(auto, unfolding(crate::specs::Divider::at_zero))]
     pub fn is_at_zero(self) -> bool

@@ -4,8 +4,14 @@ ghost use Rattle.std.specs.Prelude.{◌≡◌};
 ghost use Rattle.refusals.specs.Numbers.{answer_number};
 ghost use Rattle.events.specs.Events.{decoded, call_of, record_event};
 
+use cases::is_on;
 use chip::Chip;
 use refusals::Refusal;
+
+/// The pin RESET in the low byte of a record that sets the pins; 1 is high.
+const RESET: u8 = 0x01;
+/// The pin PS in it; 1 is high.
+const PS: u8 = 0x02;
 
 /// One call of a chip, as a record says it.
 #[derive(Clone, Copy, Debug, PartialEq, Eq)]
@@ -48,8 +54,8 @@ impl TryFrom<[u8; 4]> for Event {
                 count: u16::from_le_bytes([low, high]),
             }),
             3 => Ok(Event::Pins {
-                reset: low % 2 == 1,
-                ps: low / 2 % 2 == 1,
+                reset: is_on(low, RESET),
+                ps: is_on(low, PS),
             }),
             _ => Err(Refusal::Kind),
         }

@@ -15,7 +15,7 @@ pub const LINE_ROOM: usize = 24;
 pub struct Line {
     /// The record's number, from 1 on.
     pub number: u32,
-    /// The number of its answer, 0 where the call is accepted.
+    /// The number of its answer, 0 where the call is accepted: a number, as the line shows it.
     pub answer: u8,
     /// The byte that it read, 255 where a read is refused, 0 for every other record.
     pub byte: u8,

@@ -60,7 +60,7 @@ impl DataMode {
         }
     }
 
-    /// The byte for a number below 100.
+    /// The byte for a number below 100. It is a plain number, as all its callers have: a type for it would ask more of them.
     pub fn byte(self, value: u8) -> u8
         requires { value < 100 }
         ensures { result ≡ byte_of self value }

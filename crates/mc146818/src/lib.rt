@@ -16,7 +16,7 @@ use fields::Mode;
 use refusals::Refusal;
 use times::Time;
 
-// ---- the calls on a chip
+// ---- the calls on a chip: each has the same three lines, as a closure between load and store would have its promise written out at every call
 
 /// Writes a fresh chip over whatever stood there.
 pub fn fresh(bytes: &mut [u8; 72])
@@ -58,7 +58,8 @@ pub fn run(bytes: &mut [u8; 72], ticks: u32) -> Result<(), Refusal>
     Ok(())
 }
 
-/// Puts the pins at new levels: bit 0 is RESET and bit 1 is PS, and 1 is high; the other bits say nothing. Refused with `Rules` alone.
+/// Puts the pins at new levels: bit 0 is RESET and bit 1 is PS, and 1 is high; the other bits say nothing. Refused with `Rules` alone. The levels are a
+/// word of the C interface, of 32 bits.
 pub fn pins(bytes: &mut [u8; 72], levels: u32) -> Result<(), Refusal>
     ensures answer { result ≡ pins_answer bytes.old }
     ensures bytes { bytes.new ≡ pins_bytes bytes.old levels }
@@ -112,7 +113,7 @@ pub fn encode(bytes: &mut [u8], seconds: u64, weekday: u32, mode: u8) -> Result<
     times::encode(bytes, Time { weekday, seconds }, Mode::of_register_b(mode))
 }
 
-// ---- the words that C is told
+// ---- the words that C is told, which the C interface fixes: numbers packed into one another
 
 /// The word of a refused call: the byte that it shows, and the refusal's number in bits 8 to 15.
 fn refused_word(byte: u8, why: Refusal) -> u32

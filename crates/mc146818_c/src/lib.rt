@@ -1,4 +1,5 @@
-//! The archive that C links: the calls of the library mc146818 under their C names, with their answers as words. include/mc146818.h is the manual.
+//! The archive that C links: the calls of the library mc146818 under their C names, with their answers as words. include/mc146818.h is the manual. They
+//! stand here once more, since a crate is a library or a static library and not both.
 #![tactic(auto)]
 
 ghost use Rattle.std.specs.Prelude.{◌≡◌};

@@ -1,11 +1,12 @@
 //! The registers: what stands at locations 0 to 13, who may read or write them when, and the two lines.
 #![tactic(auto)]
 
-ghost use Rattle.std.specs.Prelude.{◌≡◌, ◌*◌, cond, Ok, Err};
+ghost use Rattle.std.specs.Prelude.{◌≡◌, ◌&&◌, cond};
 ghost use Rattle.registers.specs.Bits.{dv_of, base_of, rate_of, set_on, pie_on, aie_on, uie_on, sqwe_on, dse_on};
 ghost use Rattle.registers.specs.Lines.{irqf, sqw};
 ghost use Rattle.registers.specs.Locations.{register_a, register_c, register_d, register_bytes};
 ghost use Rattle.registers.specs.Access.{closed, access, write_access};
+ghost use Rattle.registers.specs.With.{with_flags};
 ghost use Rattle.registers.specs.Calls.{fresh, after_read, write_a, set_rises, write_b, write_plain, written, with_pins};
 
 use calendar::{Alarm, Clock};
@@ -68,7 +69,7 @@ pub struct Regs {
     pub used: bool,
 }
 
-/// DV2 to DV0, bits 6 to 4 of a register A byte.
+/// DV2 to DV0, bits 6 to 4 of a register A byte. A number and no `Base`: the byte may hold a test pattern, which a write refuses.
 pub fn dv_of(a: u8) -> u8
     ensures { result ≡ dv_of a }
 {
@@ -82,7 +83,7 @@ pub fn base_of(a: u8) -> Option<Base>
     Base::selected(dv_of(a))
 }
 
-/// The rate, bits 3 to 0 of a register A byte.
+/// The rate, bits 3 to 0 of a register A byte. A number: the tap lies five bits above it, and 0 selects none.
 pub fn rate_of(a: u8) -> u8
     ensures { result ≡ rate_of a }
 {
@@ -240,15 +241,21 @@ impl Regs {
 
     // ---- what the calls leave
 
+    /// Clears PF, AF and UF, unless they are to be kept.
+    fn keep_flags(&mut self, kept: bool)
+        ensures { self.new ≡ with_flags self.old (self.old.pf && kept) (self.old.af && kept) (self.old.uf && kept) }
+    {
+        self.pf &= kept;
+        self.af &= kept;
+        self.uf &= kept;
+    }
+
     /// The effect of an accepted read: one of C clears its flags, one of D sets VRT where PS is high, any other has none.
     #[tactic(auto, unfolding(crate::specs::Calls::after_read))]
     pub fn after_read(&mut self, address: u32)
         ensures { self.new ≡ after_read self.old address }
     {
-        let kept = address != 12;
-        self.pf &= kept;
-        self.af &= kept;
-        self.uf &= kept;
+        self.keep_flags(address != 12);
         self.vrt |= (address == 13) & !self.pslow;
     }
 
@@ -325,9 +332,7 @@ impl Regs {
         if !reset {
             self.b = self.b / 128 * 128 + self.b % 8;
         }
-        self.pf &= reset;
-        self.af &= reset;
-        self.uf &= reset;
+        self.keep_flags(reset);
         self.vrt &= ps;
         self.resetlow = !reset;
         self.pslow = !ps;

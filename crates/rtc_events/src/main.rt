@@ -19,7 +19,7 @@ struct Program {
     state: State,
     /// The block that is read. At its start stand the bytes of a record that is not whole yet.
     input: [u8; BLOCK],
-    /// How many those are, 0 to 3.
+    /// How many those are, 0 to 3. Its methods ask that of it: with an invariant on the struct, `work_block` was not proved.
     left: usize,
     /// Room for the lines of a block.
     out: [u8; BLOCK / 4 * LINE_ROOM],

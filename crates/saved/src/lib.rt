@@ -27,6 +27,8 @@ const PS_LOW: u8 = 0x04;
 /// This Sunday's repeated hour has been used.
 const USED: u8 = 0x08;
 
+// Plain functions: neither the bytes nor the chip's types are this crate's own, so that no `From` can stand here.
+
 // ---- from a chip to bytes
 
 /// Byte 67: an update pending, RESET low, PS low and the repeat used, from bit 0 up.
@@ -191,7 +193,7 @@ fn spare_keeps(bytes: &[u8; 72]) -> bool
     bytes[67] < 16 && (bytes[68] == 0 && (bytes[69] == 0 && (bytes[70] == 0 && bytes[71] == 0)))
 }
 
-/// All of the rules, in the order of their places.
+/// All of the rules, in the order of their places. Calls and no table of functions, since each rule has its own promise.
 #[tactic(auto, unfolding(crate::specs::Rules::keeps_rules))]
 fn keeps_rules(bytes: &[u8; 72]) -> bool
     ensures { result ≡ keeps_rules bytes.now }

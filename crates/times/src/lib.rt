@@ -145,6 +145,7 @@ impl Time {
         requires { is_time self ≡ true }
         ensures { result ≡ clock_of mode self }
     {
+        // Each cast keeps its number, as the check proves; `try_from` would only add an error that cannot be.
         let data = mode.data;
         let day = (self.seconds / 86_400) as u32;
         let year = year_of(day);
