@@ -4,19 +4,16 @@ use mathlib.Core.Path.{◌≡◌, sym, ap, ◌∙◌}
 use mathlib.Core.Bool.{Bool}
 use mathlib.Core.List.{List}
 use Prim.Native.Nat.{ℕ}
+use Rattle.std.specs.Prelude.{Result}
+use Rattle.refusals.specs.declared.Refusal.{Refusal}
 use Rattle.fields.specs.declared.Mode.{Mode}
 use Rattle.times.specs.declared.Time.{Time}
-use Rattle.times.specs.declared.Decoded.{Decoded}
-use Rattle.times.specs.declared.Encoded.{Encoded}
 use Rattle.times.specs.Calls.{decoded, encoded, Encoding, encoding_of}
 use Rattle.chip.specs.declared.Chip.{Chip}
-use Rattle.chip.specs.declared.ReadResult.{ReadResult}
-use Rattle.chip.specs.declared.Outcome.{Outcome}
 use Rattle.chip.specs.declared.Levels.{Levels}
 use Rattle.chip.specs.Chips.{fresh, ticked}
 use Rattle.chip.specs.Calls as chip
-use Rattle.saved.specs.declared.LoadResult.{LoadResult}
-use Rattle.saved.specs.declared.SaveAnswer.{SaveAnswer}
+use Rattle.chip.specs.Calls.{ReadResult, Outcome}
 use Rattle.saved.specs.Record.{record_of}
 use Rattle.saved.specs.Calls.{load, save, Saving, saving_of}
 use Rattle.mc146818.specs.Words.{Host, host_of}
@@ -86,16 +83,16 @@ chip_pins c reset ps x y = equal
 pub chip_lines : (c : Chip) (x y : Levels) → x ≡ chip.lines c → y ≡ chip.lines c → x ≡ y
 chip_lines c x y = equal
 
-pub saved_load : (l : List ℕ) (x y : LoadResult) → x ≡ load l → y ≡ load l → x ≡ y
+pub saved_load : (l : List ℕ) (x y : Result Chip Refusal) → x ≡ load l → y ≡ load l → x ≡ y
 saved_load l x y = equal
 
-pub saved_save : (c : Chip) (page : List ℕ) (offset : ℕ) (v w : SaveAnswer) (k l : List ℕ)
+pub saved_save : (c : Chip) (page : List ℕ) (offset : ℕ) (v w : Result (Unit {0}) Refusal) (k l : List ℕ)
     → saving_of v k ≡ save c page offset → saving_of w l ≡ save c page offset → (v ≡ w) × (k ≡ l)
 saved_save c page offset v w k l p q = let e = equal p q in (ap (λ (s : Saving). s.answer) e, ap (λ (s : Saving). s.page) e)
 
-pub times_decode : (m : Mode) (l : List ℕ) (x y : Decoded) → x ≡ decoded m l → y ≡ decoded m l → x ≡ y
+pub times_decode : (m : Mode) (l : List ℕ) (x y : Result Time Refusal) → x ≡ decoded m l → y ≡ decoded m l → x ≡ y
 times_decode m l x y = equal
 
-pub times_encode : (m : Mode) (t : Time) (bytes : List ℕ) (v w : Encoded) (k l : List ℕ)
+pub times_encode : (m : Mode) (t : Time) (bytes : List ℕ) (v w : Result (Unit {0}) Refusal) (k l : List ℕ)
     → encoding_of v k ≡ encoded m t bytes → encoding_of w l ≡ encoded m t bytes → (v ≡ w) × (k ≡ l)
 times_encode m t bytes v w k l p q = let e = equal p q in (ap (λ (s : Encoding). s.answer) e, ap (λ (s : Encoding). s.bytes) e)

@@ -8,11 +8,14 @@ use native.Mathlib.Omega.{arith}
 use lib.Dec.{leb}
 use lib.ListN.{length, replicate, length-replicate}
 use Rattle.cases.proofs.Tests.{false_is_not_true}
+use Rattle.refusals.specs.Numbers.{answer_number}
 use Rattle.fields.specs.Modes.{mode_of}
 use Rattle.calendar.specs.Days.{last_days, last_day_of}
 use Rattle.times.specs.declared.Time.{Time}
 use Rattle.times.specs.Days.{days_before_year, day_of}
 use Rattle.times.specs.Times.{century, is_valid, time_of, later}
+use Rattle.std.specs.Prelude.{Some}
+use Rattle.divider.specs.declared.Base.TheVariants.{Slowest}
 use Rattle.divider.specs.Divider as divider
 use Rattle.divider.specs.Divider.{step_of, end_of, count_of, span}
 use Rattle.divider.proofs.Laws.Keeps.{kept_gives_keeps_count, fresh_keeps}
@@ -22,7 +25,7 @@ use Rattle.registers.specs.Calls as registers
 use Rattle.registers.proofs.Laws.Sound.{Sound}
 use Rattle.chip.specs.declared.Chip.{Chip}
 use Rattle.chip.specs.Chips.{locations, location, fresh, written}
-use Rattle.chip.specs.Calls.{read_number, read_byte, read, write, run}
+use Rattle.chip.specs.Calls.{read_byte, read, write, run}
 use Rattle.chip.proofs.Laws.Rules.{sound_keeps_rules}
 use Rattle.chip.proofs.Laws.Refusals.{read_refusals}
 use Rattle.demands.specs.Events.{runs, updates_after, KeepsTime}
@@ -59,7 +62,7 @@ released_sound =
       seconds = omega arith;
       a = omega arith;
       pattern = refl;
-      count = kept_gives_keeps_count 2 divider.fresh (fresh_keeps 2);
+      count = kept_gives_keeps_count (Some Slowest) divider.fresh (fresh_keeps (Some Slowest));
       vrt = λ e. refl;
       enables = λ e. refl;
       pf = λ e. refl;
@@ -131,7 +134,7 @@ fresh_is_awake = refl
 -- ---- the wrong clocks
 
 -- a clock that refuses every call: our fresh chip lets its RAM be read
-pub not_a_clock_that_refuses_everything : ((chip : Chip) (address : ℕ) → 0 < read_number (read chip address).answer) → ⊥
+pub not_a_clock_that_refuses_everything : ((chip : Chip) (address : ℕ) → 0 < answer_number (read chip address).answer) → ⊥
 not_a_clock_that_refuses_everything h = let z = h fresh 14 in omega (arith, rw (read_refusals fresh 14, fresh_is_awake) at z)
 
 -- a clock that always gives the same byte: two RAM bytes of ours differ

@@ -1,12 +1,13 @@
 -- Demand 3: what may happen to a chip that keeps time, and what it then shows.
 use Rattle.std.specs.Prelude.{◌≡◌, Bool, true, false, cond, ◌&&◌, ◌||◌, List, [], ◌∷◌, ℕ, ◌+◌, ◌-◌, ◌*◌, ◌/◌, ◌≤◌, ◌<◌, eqb, leb}
+use Rattle.refusals.specs.Numbers.{answer_number}
 use Rattle.fields.specs.Modes.{mode_of}
 use Rattle.times.specs.Times.{is_valid, time_of, later}
 use Rattle.divider.specs.Divider.{running, step_of, end_of, span, count_of}
-use Rattle.registers.specs.Bits.{dv_of, set_on, dse_on}
+use Rattle.registers.specs.Bits.{base_of, set_on, dse_on}
 use Rattle.chip.specs.declared.Chip.{Chip}
 use Rattle.chip.specs.Chips.{location}
-use Rattle.chip.specs.Calls.{answer_number, read, write, run, pins}
+use Rattle.chip.specs.Calls.{read, write, run, pins}
 use Rattle.chip.specs.Rules.{Rules}
 
 -- ---- what may happen
@@ -63,7 +64,7 @@ accepted_ticks (e ∷ es) = ticks_of e + accepted_ticks es
 -- Divider and ticks, tick formula: the updates that n ticks complete, from the count at the start; none where that is negative.
 abbrev pub updates_after : Chip → ℕ → ℕ
 updates_after chip n =
-    (count_of chip.regs.divider + n * step_of (dv_of chip.regs.a) - end_of (dv_of chip.regs.a)) / span
+    (count_of chip.regs.divider + n * step_of (base_of chip.regs.a) - end_of (base_of chip.regs.a)) / span
 
 -- Demand 3: the byte at a user RAM location after an event: the one written, where the event is an accepted write there.
 abbrev pub kept_byte : ℕ → ℕ → Chip → Event → ℕ
@@ -83,7 +84,7 @@ last_accepted address byte chip (e ∷ es) = last_accepted address (kept_byte ad
 pub record KeepsTime (chip : Chip) : Type 0 where
   pub rules : Rules chip
   pub valid_time : is_valid (mode_of chip.regs.b) chip.regs.clock ≡ true
-  pub divider_runs : running (dv_of chip.regs.a) ≡ true
+  pub divider_runs : running (base_of chip.regs.a) ≡ true
   pub set_off : set_on chip.regs.b ≡ false
   pub daylight_saving_off : dse_on chip.regs.b ≡ false
   pub nothing_pending : chip.regs.pending ≡ false

@@ -1,8 +1,8 @@
 -- Demand 1: the table of refusals, for each call that a C host makes, on any input.
 use Rattle.std.specs.Prelude.{Bool, cond, ◌&&◌, ◌||◌, not, List, [], ◌∷◌, ℕ, ◌+◌, ◌/◌, ◌%◌, eqb, leb, ltb, length}
 use Rattle.fields.specs.Modes.{mode_of}
+use Rattle.calendar.specs.Bytes.{clock_at}
 use Rattle.times.specs.Times.{is_valid, is_time}
-use Rattle.times.specs.Calls.{clock_at}
 use Rattle.divider.specs.Divider.{test_pattern}
 use Rattle.registers.specs.Bits.{dv_of}
 use Rattle.registers.specs.Access.{closed}
