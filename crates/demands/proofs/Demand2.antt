@@ -1,4 +1,4 @@
--- Demand 2: encode and decode undo one another in every mode, and load undoes save. Stated of the calls themselves. The register rules
+-- What goes round comes back: encode and decode undo one another in every mode, and load undoes save. Stated of the calls themselves. The register rules
 -- are the definitions that each call's contract cites, and the laws named in docs/CLAIMS.md.
 use mathlib.Core.Path.{◌≡◌, ap, ◌∙◌}
 use mathlib.Core.Bool.{true, false, ◌&&◌}

@@ -1,17 +1,18 @@
 -- A chip that keeps time goes on keeping it, whatever events of the allowed kinds happen, and its user RAM keeps what it was given; and so
 -- does the chip in the 72 bytes of a C host.
-use mathlib.Core.Path.{◌≡◌, refl, sym, ap, ◌∙◌}
+use mathlib.Core.Path.{◌≡◌, refl, sym, subst, ap, ◌∙◌}
 use mathlib.Core.Bool.{Bool, true, false}
 use lib.Dec.{eqb}
 use mathlib.Core.List.{List, [], ◌∷◌}
-use Prim.Native.Nat.{ℕ, ◌+◌, ◌/◌, ◌%◌, ◌<◌}
+use Prim.Native.Nat.{ℕ, ◌+◌, ◌/◌, ◌-◌, ◌%◌, ◌≤◌, ◌<◌}
 use native.Mathlib.Omega.{arith}
 use Rattle.std.specs.Prelude.{Option, Result, Ok, Err}
 use Rattle.refusals.specs.declared.Refusal.{Refusal}
 use Rattle.refusals.specs.Numbers.{answer_number}
 use Rattle.refusals.proofs.Laws.{number_is_1_to_10}
 use Rattle.fields.specs.Modes.{mode_of}
-use Rattle.times.specs.Times.{seconds_on}
+use Rattle.times.specs.declared.Time.{Time}
+use Rattle.times.specs.Times.{century, later, seconds_on}
 use Rattle.times.proofs.Laws.Advance.{n_seconds_on}
 use Rattle.divider.specs.declared.Base.{Base}
 use Rattle.divider.proofs.Laws.Base.{running_is_base}
@@ -20,6 +21,7 @@ use Rattle.divider.proofs.Laws.Formula as course
 use Rattle.divider.proofs.Laws.Formula.{Course, completed_updates_at_rest}
 use Rattle.registers.specs.Bits.{base_of}
 use Rattle.chip.specs.declared.Chip.{Chip}
+use Rattle.chip.specs.Chips.{location}
 use Rattle.chip.proofs.Laws.Rules.{rules_are_sound}
 use Rattle.chip.specs.Calls.{read, write, run, pins}
 use Rattle.chip.proofs.Laws.Refusals.{refused_read_changes_nothing, refused_write_changes_nothing, refused_run_changes_nothing}
@@ -29,7 +31,8 @@ use Rattle.saved.specs.Calls.{load}
 use Rattle.saved.proofs.Laws.Calls.{store_then_load, load_then_store, loaded_keeps_rules}
 use Rattle.mc146818.specs.Calls as host
 use Rattle.mc146818.specs.Calls.{left, stored}
-use Rattle.demands.specs.Events.{Event, runs, reads, levels, writes, all_may_happen, after, after_all, accepted_ticks, updates_after, KeepsTime, TimeWasKept}
+use Rattle.demands.specs.Events.{Event, runs, reads, levels, writes, all_may_happen, after, after_all, accepted_ticks, updates_after, last_accepted, time_shown, seconds_shown, ShowsATime, NoneSetsTheTime, updates, midnights, KeepsTime, TimeWasKept}
+use Rattle.demands.specs.Saving.{Holds}
 use Rattle.demands.specs.HostEvents.{levels_word, host_after, host_after_all, AreBytes}
 use Rattle.demands.proofs.Laws.Course.{Follows}
 use Rattle.demands.proofs.Laws.Events.{events_follow, event_keeps_rules, events_keep_rules}
@@ -76,6 +79,29 @@ module _ (chip : Chip) (p : KeepsTime chip) where
         time = rw (f.mode, c) t.1;
         ram = λ address low high. events_byte address low high events chip p.rules;
       }
+
+-- ---- what was kept, fact by fact
+
+module _ (start : Chip) (events : List Event) (k : KeepsTime start) (h : NoneSetsTheTime events) where
+  pub time_shown_is_later : time_shown (after_all events start) ≡ later (updates start events) (time_shown start)
+  time_shown_is_later = (time_is_kept start k events h).time
+
+  pub seconds_shown_are_more : seconds_shown (after_all events start) ≡ (seconds_shown start + updates start events) % century
+  unfolding later
+  seconds_shown_are_more = ap (λ (t : Time). t.seconds) time_shown_is_later
+
+  pub weekday_shown_is_later : (time_shown (after_all events start)).weekday ≡ ((time_shown start).weekday + 6 + midnights start events) % 7 + 1
+  unfolding later
+  weekday_shown_is_later = ap (λ (t : Time). t.weekday) time_shown_is_later
+
+  pub a_time_is_shown : ShowsATime (after_all events start)
+  a_time_is_shown = (time_is_kept start k events h).valid_time
+
+  pub mode_is_kept : mode_of (after_all events start).regs.b ≡ mode_of start.regs.b
+  mode_is_kept = (time_is_kept start k events h).same_mode
+
+  pub ram_is_kept : (address : ℕ) → 14 ≤ address → address < 64 → location (after_all events start) address ≡ last_accepted address (location start address) start events
+  ram_is_kept = (time_is_kept start k events h).ram
 
 -- ---- carried to the 72 bytes that a C host holds
 
@@ -130,3 +156,12 @@ pub time_is_kept_in_the_record : (bytes : List ℕ) (chip : Chip) → AreBytes b
     → (events : List Event) → all_may_happen events ≡ true
     → (load (host_after_all events bytes) ≡ Ok (after_all events chip)) × TimeWasKept chip (after_all events chip) events
 time_is_kept_in_the_record bytes chip small loaded p events h = (bytes_follow_the_chip bytes chip events small loaded, time_is_kept chip p events h)
+
+-- whatever chip is in the bytes then
+pub time_is_kept_in_the_bytes : (bytes : List ℕ) (start now : Chip) (events : List Event) → AreBytes bytes → Holds bytes start → KeepsTime start → NoneSetsTheTime events
+    → Holds (host_after_all events bytes) now → TimeWasKept start now events
+time_is_kept_in_the_bytes bytes start now events small loaded k h then_loaded =
+    let t = time_is_kept_in_the_record bytes start small loaded k events h in
+    let e : ◌≡◌ {A = Result Chip Refusal} (Ok (after_all events start)) (Ok now) = sym t.0 ∙ then_loaded in
+    let same : after_all events start ≡ now = cc in
+    subst (λ (c : Chip). TimeWasKept start c events) same t.1

@@ -1,8 +1,9 @@
 -- Four wrong clocks, each refuted by what is proved of ours: one that refuses everything, one that gives a fixed byte, one that does nothing,
--- and one that makes all its updates on the first tick. The witness also shows that the premises of demand 3 can be met.
+-- and one that makes all its updates on the first tick. The chip that refutes the last two also shows that
+-- the premises of a chip that keeps time can be met.
 use mathlib.Core.Path.{◌≡◌, refl, sym, ap, ◌∙◌}
 use mathlib.Core.Bool.{true, false, cond}
-use mathlib.Core.List.{[], ◌∷◌}
+use mathlib.Core.List.{List, [], ◌∷◌}
 use Prim.Native.Nat.{ℕ, ◌+◌, ◌-◌, ◌*◌, ◌/◌, ◌%◌, ◌<◌}
 use native.Mathlib.Omega.{arith}
 use lib.Dec.{leb}
@@ -28,32 +29,11 @@ use Rattle.chip.specs.Chips.{locations, location, fresh, written}
 use Rattle.chip.specs.Calls.{read_byte, read, write, run}
 use Rattle.chip.proofs.Laws.Rules.{sound_keeps_rules}
 use Rattle.chip.proofs.Laws.Refusals.{read_refusals}
-use Rattle.demands.specs.Events.{runs, updates_after, KeepsTime}
+use Rattle.demands.specs.Events.{Event, runs, after_all, accepted_ticks, updates_after, updates, time_shown, seconds_shown, NoneSetsTheTime, KeepsTime}
+use Rattle.demands.specs.Released.{released}
 use Rattle.demands.proofs.Demand3.{time_is_kept}
 
--- ---- a chip that keeps time: Sunday 1 January of year 00, 00:00:00, binary and 24 hours, just released on the 32.768 kHz base
-
-unfoldable pub released : Chip
-released =
-    record {
-      regs =
-          record {
-            clock = record { seconds = 0; minutes = 0; hours = 0; weekday = 1; date = 1; month = 1; year = 0 };
-            alarm = record { seconds = 0; minutes = 0; hours = 0 };
-            a = 0x26;
-            b = 0x06;
-            pf = false;
-            af = false;
-            uf = false;
-            vrt = false;
-            divider = divider.fresh;
-            pending = false;
-            resetlow = false;
-            pslow = false;
-            used = false;
-          };
-      ram = replicate 50 0;
-    }
+-- ---- a chip that keeps time: the premises can be met
 
 released_sound : Sound released.regs
 unfolding released
@@ -77,7 +57,6 @@ released_ram : length released.ram ≡ 50
 unfolding released
 released_ram = length-replicate {A = ℕ} 50 0
 
--- the premises of demand 3 can be met
 pub released_keeps_time : KeepsTime released
 unfolding released is_valid last_day_of last_days
 released_keeps_time =
@@ -90,10 +69,6 @@ released_keeps_time =
       nothing_pending = refl;
     }
 
--- what a chip shows, in seconds
-abbrev pub seconds_shown : Chip → ℕ
-seconds_shown chip = (time_of (mode_of chip.regs.b) chip.regs.clock).seconds
-
 starts_at_0 : seconds_shown released ≡ 0
 unfolding released time_of day_of days_before_year last_days
 starts_at_0 = refl
@@ -105,6 +80,13 @@ later_by k t = refl
 formula : (n : ℕ) → updates_after released n ≡ (2097152 + n * 128 - 9344) / 4194304
 unfolding released step_of end_of count_of divider.fresh
 formula n = refl
+
+-- from the start on, half a second and what is left of it up to the update's end; then a second every 32,768 ticks
+pub a_second_every_32768_ticks : (events : List Event) → NoneSetsTheTime events → seconds_shown (after_all events released) ≡ (accepted_ticks events + 16311) / 32768 % century
+a_second_every_32768_ticks events h =
+    ap (λ (t : Time). t.seconds) (time_is_kept released released_keeps_time events h).time
+    ∙ later_by (updates released events) (time_shown released)
+    ∙ rw (starts_at_0, formula (accepted_ticks events)) (omega arith)
 
 shows : (n : ℕ) → leb n 65536 ≡ true → seconds_shown (run released n).chip ≡ (2097152 + n * 128 - 9344) / 4194304 % century
 shows n small =
