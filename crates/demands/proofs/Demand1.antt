@@ -222,3 +222,6 @@ refused_encode_gives_zeros bytes seconds weekday mode h = go (either (eqb (lengt
         → 0 < answer_in (host.encode bytes seconds weekday mode).word → (host.encode bytes seconds weekday mode).bytes ≡ replicate (length bytes) 0
     go (inl t) h = let z : 0 < answer_in 0 = rw t at h in absurd (omega arith)
     go (inr t) h = rw t
+
+-- every refusal follows the table
+pub ruleset table = (refusals_by_the_table, refusal_changes_nothing, refused_encode_gives_zeros)

@@ -63,3 +63,6 @@ pub save_then_load_is_the_same_chip : (chip : Chip) (page : List ℕ) (offset : 
 save_then_load_is_the_same_chip chip page offset k h =
     let s = save_changes_only_its_part chip page offset k.ram_size h in
     (s.0, ap load s.2 ∙ store_then_load chip k)
+
+-- a time turned into bytes and back
+pub ruleset time_round_trip = (encode_then_decode_is_the_same_time, decode_then_encode_is_the_same_bytes)

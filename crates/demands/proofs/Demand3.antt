@@ -4,7 +4,7 @@ use mathlib.Core.Path.{◌≡◌, refl, sym, subst, ap, ◌∙◌}
 use mathlib.Core.Bool.{Bool, true, false}
 use lib.Dec.{eqb}
 use mathlib.Core.List.{List, [], ◌∷◌}
-use Prim.Native.Nat.{ℕ, ◌+◌, ◌/◌, ◌-◌, ◌%◌, ◌≤◌, ◌<◌}
+use Prim.Native.Nat.{ℕ, ◌+◌, ◌/◌, ◌%◌, ◌≤◌, ◌<◌}
 use native.Mathlib.Omega.{arith}
 use Rattle.std.specs.Prelude.{Option, Result, Ok, Err}
 use Rattle.refusals.specs.declared.Refusal.{Refusal}
@@ -165,3 +165,6 @@ time_is_kept_in_the_bytes bytes start now events small loaded k h then_loaded =
     let e : ◌≡◌ {A = Result Chip Refusal} (Ok (after_all events start)) (Ok now) = sym t.0 ∙ then_loaded in
     let same : after_all events start ≡ now = cc in
     subst (λ (c : Chip). TimeWasKept start c events) same t.1
+
+-- time and RAM are kept
+pub ruleset kept = (time_shown_is_later, seconds_shown_are_more, weekday_shown_is_later, a_time_is_shown, mode_is_kept, ram_is_kept)

@@ -7,7 +7,7 @@ use mathlib.Core.List.{List, [], ◌∷◌}
 use Prim.Native.Nat.{ℕ, ◌+◌, ◌-◌, ◌*◌, ◌/◌, ◌%◌, ◌<◌}
 use native.Mathlib.Omega.{arith}
 use lib.Dec.{leb}
-use lib.ListN.{length, replicate, length-replicate}
+use lib.ListN.{length, length-replicate}
 use Rattle.cases.proofs.Tests.{false_is_not_true}
 use Rattle.refusals.specs.Numbers.{answer_number}
 use Rattle.fields.specs.Modes.{mode_of}
@@ -149,3 +149,9 @@ not_a_clock_that_updates_on_the_first_tick h =
 pub updates_end_at_16457_and_49225 : (seconds_shown (run released 16456).chip ≡ 0) × (seconds_shown (run released 16457).chip ≡ 1)
     × (seconds_shown (run released 49224).chip ≡ 1) × (seconds_shown (run released 49225).chip ≡ 2)
 updates_end_at_16457_and_49225 = (shows 16456 refl, shows 16457 refl, shows 49224 refl, shows 49225 refl)
+
+-- what a released chip shows
+pub ruleset shown = (released_keeps_time, a_second_every_32768_ticks, updates_end_at_16457_and_49225)
+
+-- the wrong clocks
+pub ruleset refuted = (not_a_clock_that_refuses_everything, not_a_clock_that_gives_a_fixed_byte, not_a_clock_that_ignores_writes, not_a_clock_that_stands_still, not_a_clock_that_updates_on_the_first_tick)

@@ -29,7 +29,7 @@ ghost use Rattle.demands.specs.Released.{released};
 
 /// Every refusal follows the table. The answer of a C host's call is the first row of the call's table that applies, and 0 where none does. A refused
 /// call changes neither the chip's bytes nor the page, and the whole buffer of a refused encode becomes zeros.
-#[tactic(auto, using(crate::proofs::Demand1::refusals_by_the_table, crate::proofs::Demand1::refusal_changes_nothing, crate::proofs::Demand1::refused_encode_gives_zeros))]
+#[tactic(auto, using(crate::proofs::Demand1::table))]
 pub fn refusals_follow_the_table()
     ensures answer { (call : HostCall) → LendsBytes call → answer_of call ≡ first (rows_of call) }
     ensures unchanged { (call : HostCall) → LendsBytes call → IsRefused call → chip_after call ≡ chip_before call }
@@ -39,7 +39,7 @@ pub fn refusals_follow_the_table()
 // ---- what goes round comes back
 
 /// A time that is turned into bytes is read from them again, in every data mode and hour mode; and bytes that were read as a time are written again for it.
-#[tactic(auto, using(crate::proofs::Demand2::encode_then_decode_is_the_same_time, crate::proofs::Demand2::decode_then_encode_is_the_same_bytes))]
+#[tactic(auto, using(crate::proofs::Demand2::time_round_trip))]
 pub fn times_survive_bytes()
     ensures read_again { (mode : Mode) (time : Time) (buffer : List ℕ) → length buffer ≡ 7 → is_time time ≡ true → decoded mode (encoded mode time buffer).bytes ≡ Ok time }
     ensures written_again { (mode : Mode) (bytes buffer : List ℕ) (time : Time) → length buffer ≡ 7 → decoded mode bytes ≡ Ok time → encoded mode time buffer ≡ encoding_of (Ok tt) bytes }
@@ -65,7 +65,7 @@ pub fn chips_survive_storing()
 /// A chip that keeps time goes on keeping it through any runs, reads, pin levels and writes to the alarm or user RAM, refused ones among them. It shows the
 /// time that it showed at first, as many seconds later as the tick formula counts updates, round the century; the weekday is as many days on as
 /// midnights were passed. Each user RAM location has the byte of the last write that was accepted there, or its first.
-#[tactic(auto, using(crate::proofs::Demand3::time_shown_is_later, crate::proofs::Demand3::seconds_shown_are_more, crate::proofs::Demand3::weekday_shown_is_later, crate::proofs::Demand3::a_time_is_shown, crate::proofs::Demand3::mode_is_kept, crate::proofs::Demand3::ram_is_kept))]
+#[tactic(auto, using(crate::proofs::Demand3::kept))]
 pub fn time_is_kept()
     ensures time { (start : Chip) (events : List Event) → KeepsTime start → NoneSetsTheTime events → time_shown (after_all events start) ≡ later (updates start events) (time_shown start) }
     ensures seconds { (start : Chip) (events : List Event) → KeepsTime start → NoneSetsTheTime events → seconds_shown (after_all events start) ≡ (seconds_shown start + updates start events) % century }
@@ -83,8 +83,8 @@ pub fn bytes_follow_the_chip()
 {}
 
 /// A chip that was just released on the 32.768 kHz base keeps time. Its first two updates end with ticks 16,457 and 49,225 and not a tick before, and so on
-/// every 32,768 ticks, whatever else happens.
-#[tactic(auto, using(crate::proofs::WrongClocks::released_keeps_time, crate::proofs::WrongClocks::a_second_every_32768_ticks, crate::proofs::WrongClocks::updates_end_at_16457_and_49225))]
+/// each 32,768 ticks, through any events that leave the time to the ticks.
+#[tactic(auto, using(crate::proofs::WrongClocks::shown))]
 pub fn first_updates_end_at_16457_and_49225()
     ensures keeps_time { KeepsTime released }
     ensures every_second { (events : List Event) → NoneSetsTheTime events → seconds_shown (after_all events released) ≡ (accepted_ticks events + 16311) / 32768 % century }
@@ -97,7 +97,7 @@ pub fn first_updates_end_at_16457_and_49225()
 // ---- what the chip is not
 
 /// It is no clock that refuses everything, gives the same byte always, ignores writes, stands still, or makes all updates of a run on the first tick.
-#[tactic(auto, using(crate::proofs::WrongClocks::not_a_clock_that_refuses_everything, crate::proofs::WrongClocks::not_a_clock_that_gives_a_fixed_byte, crate::proofs::WrongClocks::not_a_clock_that_ignores_writes, crate::proofs::WrongClocks::not_a_clock_that_stands_still, crate::proofs::WrongClocks::not_a_clock_that_updates_on_the_first_tick))]
+#[tactic(auto, using(crate::proofs::WrongClocks::refuted))]
 pub fn wrong_clocks_are_refuted()
     ensures refuses_everything { ((chip : Chip) (address : ℕ) → 0 < answer_number (read chip address).answer) → ⊥ }
     ensures gives_a_fixed_byte { (byte : ℕ) → ((chip : Chip) (address : ℕ) → read_byte (read chip address).answer ≡ byte) → ⊥ }
@@ -110,7 +110,7 @@ pub fn wrong_clocks_are_refuted()
 
 /// Two results that the contract of one of a C host's calls allows for the same input are equal: `v` and `w` are the words, `k` and `l` the bytes that are
 /// left.
-#[tactic(auto, using(crate::proofs::Strength::host_fresh, crate::proofs::Strength::host_read, crate::proofs::Strength::host_write, crate::proofs::Strength::host_run, crate::proofs::Strength::host_pins, crate::proofs::Strength::host_lines, crate::proofs::Strength::host_load, crate::proofs::Strength::host_save, crate::proofs::Strength::host_decode, crate::proofs::Strength::host_encode))]
+#[tactic(auto, using(crate::proofs::Strength::host_results))]
 pub fn host_results_are_determined()
     ensures fresh { (k l : List ℕ) → k ≡ record_of fresh → l ≡ record_of fresh → k ≡ l }
     ensures read { (bytes : List ℕ) (address v w : ℕ) (k l : List ℕ) → host_of v k ≡ host.read bytes address → host_of w l ≡ host.read bytes address → (v ≡ w) × (k ≡ l) }
@@ -124,8 +124,20 @@ pub fn host_results_are_determined()
     ensures encode { (bytes : List ℕ) (seconds weekday mode v w : ℕ) (k l : List ℕ) → host_of v k ≡ host.encode bytes seconds weekday mode → host_of w l ≡ host.encode bytes seconds weekday mode → (v ≡ w) × (k ≡ l) }
 {}
 
+/// The same of the library's calls on the 72 bytes: `x` and `y` are the answers, `k` and `l` the bytes or the page that is left.
+#[tactic(auto, using(crate::proofs::Strength::byte_results))]
+pub fn results_on_bytes_are_determined()
+    ensures read { (bytes k l : List ℕ) (address : ℕ) (x y : Result ℕ Refusal) → x ≡ host.read_answer bytes address → y ≡ host.read_answer bytes address → k ≡ host.read_bytes bytes address → l ≡ host.read_bytes bytes address → (x ≡ y) × (k ≡ l) }
+    ensures write { (bytes k l : List ℕ) (address value : ℕ) (x y : Result (Unit {0}) Refusal) → x ≡ host.write_answer bytes address value → y ≡ host.write_answer bytes address value → k ≡ host.write_bytes bytes address value → l ≡ host.write_bytes bytes address value → (x ≡ y) × (k ≡ l) }
+    ensures run { (bytes k l : List ℕ) (ticks : ℕ) (x y : Result (Unit {0}) Refusal) → x ≡ host.run_answer bytes ticks → y ≡ host.run_answer bytes ticks → k ≡ host.run_bytes bytes ticks → l ≡ host.run_bytes bytes ticks → (x ≡ y) × (k ≡ l) }
+    ensures pins { (bytes k l : List ℕ) (levels : ℕ) (x y : Result (Unit {0}) Refusal) → x ≡ host.pins_answer bytes → y ≡ host.pins_answer bytes → k ≡ host.pins_bytes bytes levels → l ≡ host.pins_bytes bytes levels → (x ≡ y) × (k ≡ l) }
+    ensures lines { (bytes : List ℕ) (x y : Result Levels Refusal) → x ≡ host.lines_answer bytes → y ≡ host.lines_answer bytes → x ≡ y }
+    ensures load { (bytes input k l : List ℕ) (x y : Result (Unit {0}) Refusal) → x ≡ host.load_answer input → y ≡ host.load_answer input → k ≡ host.load_bytes bytes input → l ≡ host.load_bytes bytes input → (x ≡ y) × (k ≡ l) }
+    ensures save { (bytes page k l : List ℕ) (offset : ℕ) (x y : Result (Unit {0}) Refusal) → x ≡ host.save_answer bytes page offset → y ≡ host.save_answer bytes page offset → k ≡ host.save_page bytes page offset → l ≡ host.save_page bytes page offset → (x ≡ y) × (k ≡ l) }
+{}
+
 /// The same of the calls on a chip by value, on a saved chip and on a time.
-#[tactic(auto, using(crate::proofs::Strength::chip_fresh, crate::proofs::Strength::chip_read, crate::proofs::Strength::chip_write, crate::proofs::Strength::chip_run, crate::proofs::Strength::chip_tick, crate::proofs::Strength::chip_pins, crate::proofs::Strength::chip_lines, crate::proofs::Strength::saved_load, crate::proofs::Strength::saved_save, crate::proofs::Strength::times_decode, crate::proofs::Strength::times_encode))]
+#[tactic(auto, using(crate::proofs::Strength::results))]
 pub fn results_are_determined()
     ensures fresh { (x y : Chip) → x ≡ fresh → y ≡ fresh → x ≡ y }
     ensures read { (chip : Chip) (address : ℕ) (x y : ReadResult) → x ≡ read chip address → y ≡ read chip address → x ≡ y }
