@@ -1,6 +1,6 @@
 -- Four wrong clocks, each refuted by what is proved of ours: one that refuses everything, one that gives a fixed byte, one that does nothing,
--- and one that makes all its updates on the first tick. The chip that refutes the last two also shows that
--- the premises of a chip that keeps time can be met.
+-- and one that makes all its updates on the first tick. The chip that refutes the last two also shows that the premises of a chip that
+-- keeps time can be met.
 use mathlib.Core.Path.{◌≡◌, refl, sym, ap, ◌∙◌}
 use mathlib.Core.Bool.{true, false, cond}
 use mathlib.Core.List.{List, [], ◌∷◌}

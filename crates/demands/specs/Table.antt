@@ -116,7 +116,7 @@ chip_after (saves bytes page offset) = (host.save bytes page offset).bytes
 chip_after (decodes bytes mode) = []
 chip_after (encodes bytes seconds weekday mode) = []
 
--- Host interface: what is lent to a call is bytes, as it always is from C.
+-- Host interface: the chip or page that is lent to a call is of bytes, as it always is from C.
 abbrev pub LendsBytes : HostCall → Type 0
 LendsBytes call = AreBytes (chip_before call)
 
