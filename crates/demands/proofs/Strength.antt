@@ -1,22 +1,19 @@
--- The strength of the contracts: two results that a call's contract allows for one input are equal. Each contract is one equation, so
--- each theorem is one line; what it says of a call is that the equation leaves nothing open.
+-- The strength of the contracts: two results that a call's contract allows for one input are equal. Each contract is one equation, or one
+-- for the answer and one for what is left, so each theorem is one line; what it says of a call is that they leave nothing open.
 use mathlib.Core.Path.{◌≡◌, sym, ap, ◌∙◌}
 use mathlib.Core.Bool.{Bool}
 use mathlib.Core.List.{List}
 use Prim.Native.Nat.{ℕ}
+use Rattle.std.specs.Prelude.{Result}
+use Rattle.refusals.specs.declared.Refusal.{Refusal}
 use Rattle.fields.specs.declared.Mode.{Mode}
 use Rattle.times.specs.declared.Time.{Time}
-use Rattle.times.specs.declared.Decoded.{Decoded}
-use Rattle.times.specs.declared.Encoded.{Encoded}
 use Rattle.times.specs.Calls.{decoded, encoded, Encoding, encoding_of}
 use Rattle.chip.specs.declared.Chip.{Chip}
-use Rattle.chip.specs.declared.ReadResult.{ReadResult}
-use Rattle.chip.specs.declared.Outcome.{Outcome}
 use Rattle.chip.specs.declared.Levels.{Levels}
 use Rattle.chip.specs.Chips.{fresh, ticked}
 use Rattle.chip.specs.Calls as chip
-use Rattle.saved.specs.declared.LoadResult.{LoadResult}
-use Rattle.saved.specs.declared.SaveAnswer.{SaveAnswer}
+use Rattle.chip.specs.Calls.{ReadResult, Outcome}
 use Rattle.saved.specs.Record.{record_of}
 use Rattle.saved.specs.Calls.{load, save, Saving, saving_of}
 use Rattle.mc146818.specs.Words.{Host, host_of}
@@ -63,6 +60,39 @@ pub host_encode : (bytes : List ℕ) (seconds weekday mode v w : ℕ) (k l : Lis
     → host_of v k ≡ host.encode bytes seconds weekday mode → host_of w l ≡ host.encode bytes seconds weekday mode → (v ≡ w) × (k ≡ l)
 host_encode bytes seconds weekday mode = both
 
+-- ---- the library's calls on the same bytes: x and y are answers, k and l the bytes or the page that is left
+
+-- answer and bytes
+each : {A : Type 0} {answer : A} {left : List ℕ} (k l : List ℕ) (x y : A) → x ≡ answer → y ≡ answer → k ≡ left → l ≡ left → (x ≡ y) × (k ≡ l)
+each k l x y p q r s = (equal p q, equal r s)
+
+pub bytes_read : (bytes k l : List ℕ) (address : ℕ) (x y : Result ℕ Refusal)
+    → x ≡ host.read_answer bytes address → y ≡ host.read_answer bytes address → k ≡ host.read_bytes bytes address → l ≡ host.read_bytes bytes address → (x ≡ y) × (k ≡ l)
+bytes_read bytes k l address = each k l
+
+pub bytes_write : (bytes k l : List ℕ) (address value : ℕ) (x y : Result (Unit {0}) Refusal)
+    → x ≡ host.write_answer bytes address value → y ≡ host.write_answer bytes address value → k ≡ host.write_bytes bytes address value → l ≡ host.write_bytes bytes address value → (x ≡ y) × (k ≡ l)
+bytes_write bytes k l address value = each k l
+
+pub bytes_run : (bytes k l : List ℕ) (ticks : ℕ) (x y : Result (Unit {0}) Refusal)
+    → x ≡ host.run_answer bytes ticks → y ≡ host.run_answer bytes ticks → k ≡ host.run_bytes bytes ticks → l ≡ host.run_bytes bytes ticks → (x ≡ y) × (k ≡ l)
+bytes_run bytes k l ticks = each k l
+
+pub bytes_pins : (bytes k l : List ℕ) (levels : ℕ) (x y : Result (Unit {0}) Refusal)
+    → x ≡ host.pins_answer bytes → y ≡ host.pins_answer bytes → k ≡ host.pins_bytes bytes levels → l ≡ host.pins_bytes bytes levels → (x ≡ y) × (k ≡ l)
+bytes_pins bytes k l levels = each k l
+
+pub bytes_lines : (bytes : List ℕ) (x y : Result Levels Refusal) → x ≡ host.lines_answer bytes → y ≡ host.lines_answer bytes → x ≡ y
+bytes_lines bytes x y = equal
+
+pub bytes_load : (bytes input k l : List ℕ) (x y : Result (Unit {0}) Refusal)
+    → x ≡ host.load_answer input → y ≡ host.load_answer input → k ≡ host.load_bytes bytes input → l ≡ host.load_bytes bytes input → (x ≡ y) × (k ≡ l)
+bytes_load bytes input k l = each k l
+
+pub bytes_save : (bytes page k l : List ℕ) (offset : ℕ) (x y : Result (Unit {0}) Refusal)
+    → x ≡ host.save_answer bytes page offset → y ≡ host.save_answer bytes page offset → k ≡ host.save_page bytes page offset → l ≡ host.save_page bytes page offset → (x ≡ y) × (k ≡ l)
+bytes_save bytes page k l offset = each k l
+
 -- ---- the calls on a chip by value
 
 pub chip_fresh : (x y : Chip) → x ≡ fresh → y ≡ fresh → x ≡ y
@@ -86,16 +116,24 @@ chip_pins c reset ps x y = equal
 pub chip_lines : (c : Chip) (x y : Levels) → x ≡ chip.lines c → y ≡ chip.lines c → x ≡ y
 chip_lines c x y = equal
 
-pub saved_load : (l : List ℕ) (x y : LoadResult) → x ≡ load l → y ≡ load l → x ≡ y
+pub saved_load : (l : List ℕ) (x y : Result Chip Refusal) → x ≡ load l → y ≡ load l → x ≡ y
 saved_load l x y = equal
 
-pub saved_save : (c : Chip) (page : List ℕ) (offset : ℕ) (v w : SaveAnswer) (k l : List ℕ)
+pub saved_save : (c : Chip) (page : List ℕ) (offset : ℕ) (v w : Result (Unit {0}) Refusal) (k l : List ℕ)
     → saving_of v k ≡ save c page offset → saving_of w l ≡ save c page offset → (v ≡ w) × (k ≡ l)
 saved_save c page offset v w k l p q = let e = equal p q in (ap (λ (s : Saving). s.answer) e, ap (λ (s : Saving). s.page) e)
 
-pub times_decode : (m : Mode) (l : List ℕ) (x y : Decoded) → x ≡ decoded m l → y ≡ decoded m l → x ≡ y
+pub times_decode : (m : Mode) (l : List ℕ) (x y : Result Time Refusal) → x ≡ decoded m l → y ≡ decoded m l → x ≡ y
 times_decode m l x y = equal
 
-pub times_encode : (m : Mode) (t : Time) (bytes : List ℕ) (v w : Encoded) (k l : List ℕ)
+pub times_encode : (m : Mode) (t : Time) (bytes : List ℕ) (v w : Result (Unit {0}) Refusal) (k l : List ℕ)
     → encoding_of v k ≡ encoded m t bytes → encoding_of w l ≡ encoded m t bytes → (v ≡ w) × (k ≡ l)
 times_encode m t bytes v w k l p q = let e = equal p q in (ap (λ (s : Encoding). s.answer) e, ap (λ (s : Encoding). s.bytes) e)
+
+-- ---- together
+
+pub ruleset host_results = (host_fresh, host_read, host_write, host_run, host_pins, host_lines, host_load, host_save, host_decode, host_encode)
+
+pub ruleset byte_results = (bytes_read, bytes_write, bytes_run, bytes_pins, bytes_lines, bytes_load, bytes_save)
+
+pub ruleset results = (chip_fresh, chip_read, chip_write, chip_run, chip_tick, chip_pins, chip_lines, saved_load, saved_save, times_decode, times_encode)

@@ -1,18 +1,22 @@
 -- Four wrong clocks, each refuted by what is proved of ours: one that refuses everything, one that gives a fixed byte, one that does nothing,
--- and one that makes all its updates on the first tick. The witness also shows that the premises of demand 3 can be met.
+-- and one that makes all its updates on the first tick. The chip that refutes the last two also shows that the premises of a chip that
+-- keeps time can be met.
 use mathlib.Core.Path.{◌≡◌, refl, sym, ap, ◌∙◌}
 use mathlib.Core.Bool.{true, false, cond}
-use mathlib.Core.List.{[], ◌∷◌}
+use mathlib.Core.List.{List, [], ◌∷◌}
 use Prim.Native.Nat.{ℕ, ◌+◌, ◌-◌, ◌*◌, ◌/◌, ◌%◌, ◌<◌}
 use native.Mathlib.Omega.{arith}
 use lib.Dec.{leb}
-use lib.ListN.{length, replicate, length-replicate}
+use lib.ListN.{length, length-replicate}
 use Rattle.cases.proofs.Tests.{false_is_not_true}
+use Rattle.refusals.specs.Numbers.{answer_number}
 use Rattle.fields.specs.Modes.{mode_of}
 use Rattle.calendar.specs.Days.{last_days, last_day_of}
 use Rattle.times.specs.declared.Time.{Time}
 use Rattle.times.specs.Days.{days_before_year, day_of}
 use Rattle.times.specs.Times.{century, is_valid, time_of, later}
+use Rattle.std.specs.Prelude.{Some}
+use Rattle.divider.specs.declared.Base.TheVariants.{Slowest}
 use Rattle.divider.specs.Divider as divider
 use Rattle.divider.specs.Divider.{step_of, end_of, count_of, span}
 use Rattle.divider.proofs.Laws.Keeps.{kept_gives_keeps_count, fresh_keeps}
@@ -22,35 +26,14 @@ use Rattle.registers.specs.Calls as registers
 use Rattle.registers.proofs.Laws.Sound.{Sound}
 use Rattle.chip.specs.declared.Chip.{Chip}
 use Rattle.chip.specs.Chips.{locations, location, fresh, written}
-use Rattle.chip.specs.Calls.{read_number, read_byte, read, write, run}
+use Rattle.chip.specs.Calls.{read_byte, read, write, run}
 use Rattle.chip.proofs.Laws.Rules.{sound_keeps_rules}
 use Rattle.chip.proofs.Laws.Refusals.{read_refusals}
-use Rattle.demands.specs.Events.{runs, updates_after, KeepsTime}
+use Rattle.demands.specs.Events.{Event, runs, after_all, accepted_ticks, updates_after, updates, time_shown, seconds_shown, NoneSetsTheTime, KeepsTime}
+use Rattle.demands.specs.Released.{released}
 use Rattle.demands.proofs.Demand3.{time_is_kept}
 
--- ---- a chip that keeps time: Sunday 1 January of year 00, 00:00:00, binary and 24 hours, just released on the 32.768 kHz base
-
-unfoldable pub released : Chip
-released =
-    record {
-      regs =
-          record {
-            clock = record { seconds = 0; minutes = 0; hours = 0; weekday = 1; date = 1; month = 1; year = 0 };
-            alarm = record { seconds = 0; minutes = 0; hours = 0 };
-            a = 0x26;
-            b = 0x06;
-            pf = false;
-            af = false;
-            uf = false;
-            vrt = false;
-            divider = divider.fresh;
-            pending = false;
-            resetlow = false;
-            pslow = false;
-            used = false;
-          };
-      ram = replicate 50 0;
-    }
+-- ---- a chip that keeps time: the premises can be met
 
 released_sound : Sound released.regs
 unfolding released
@@ -59,7 +42,7 @@ released_sound =
       seconds = omega arith;
       a = omega arith;
       pattern = refl;
-      count = kept_gives_keeps_count 2 divider.fresh (fresh_keeps 2);
+      count = kept_gives_keeps_count (Some Slowest) divider.fresh (fresh_keeps (Some Slowest));
       vrt = λ e. refl;
       enables = λ e. refl;
       pf = λ e. refl;
@@ -74,7 +57,6 @@ released_ram : length released.ram ≡ 50
 unfolding released
 released_ram = length-replicate {A = ℕ} 50 0
 
--- the premises of demand 3 can be met
 pub released_keeps_time : KeepsTime released
 unfolding released is_valid last_day_of last_days
 released_keeps_time =
@@ -87,10 +69,6 @@ released_keeps_time =
       nothing_pending = refl;
     }
 
--- what a chip shows, in seconds
-abbrev pub seconds_shown : Chip → ℕ
-seconds_shown chip = (time_of (mode_of chip.regs.b) chip.regs.clock).seconds
-
 starts_at_0 : seconds_shown released ≡ 0
 unfolding released time_of day_of days_before_year last_days
 starts_at_0 = refl
@@ -102,6 +80,13 @@ later_by k t = refl
 formula : (n : ℕ) → updates_after released n ≡ (2097152 + n * 128 - 9344) / 4194304
 unfolding released step_of end_of count_of divider.fresh
 formula n = refl
+
+-- from the start on, half a second and what is left of it up to the update's end; then a second every 32,768 ticks
+pub a_second_every_32768_ticks : (events : List Event) → NoneSetsTheTime events → seconds_shown (after_all events released) ≡ (accepted_ticks events + 16311) / 32768 % century
+a_second_every_32768_ticks events h =
+    ap (λ (t : Time). t.seconds) (time_is_kept released released_keeps_time events h).time
+    ∙ later_by (updates released events) (time_shown released)
+    ∙ rw (starts_at_0, formula (accepted_ticks events)) (omega arith)
 
 shows : (n : ℕ) → leb n 65536 ≡ true → seconds_shown (run released n).chip ≡ (2097152 + n * 128 - 9344) / 4194304 % century
 shows n small =
@@ -131,7 +116,7 @@ fresh_is_awake = refl
 -- ---- the wrong clocks
 
 -- a clock that refuses every call: our fresh chip lets its RAM be read
-pub not_a_clock_that_refuses_everything : ((chip : Chip) (address : ℕ) → 0 < read_number (read chip address).answer) → ⊥
+pub not_a_clock_that_refuses_everything : ((chip : Chip) (address : ℕ) → 0 < answer_number (read chip address).answer) → ⊥
 not_a_clock_that_refuses_everything h = let z = h fresh 14 in omega (arith, rw (read_refusals fresh 14, fresh_is_awake) at z)
 
 -- a clock that always gives the same byte: two RAM bytes of ours differ
@@ -164,3 +149,9 @@ not_a_clock_that_updates_on_the_first_tick h =
 pub updates_end_at_16457_and_49225 : (seconds_shown (run released 16456).chip ≡ 0) × (seconds_shown (run released 16457).chip ≡ 1)
     × (seconds_shown (run released 49224).chip ≡ 1) × (seconds_shown (run released 49225).chip ≡ 2)
 updates_end_at_16457_and_49225 = (shows 16456 refl, shows 16457 refl, shows 49224 refl, shows 49225 refl)
+
+-- what a released chip shows
+pub ruleset shown = (released_keeps_time, a_second_every_32768_ticks, updates_end_at_16457_and_49225)
+
+-- the wrong clocks
+pub ruleset refuted = (not_a_clock_that_refuses_everything, not_a_clock_that_gives_a_fixed_byte, not_a_clock_that_ignores_writes, not_a_clock_that_stands_still, not_a_clock_that_updates_on_the_first_tick)

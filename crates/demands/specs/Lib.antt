@@ -1,3 +1,5 @@
 pub mod Events
-pub mod Table
 pub mod HostEvents
+pub mod Table
+pub mod Saving
+pub mod Released

@@ -1,8 +1,8 @@
--- Demand 1: the table of refusals, for each call that a C host makes, on any input.
-use Rattle.std.specs.Prelude.{Bool, cond, ◌&&◌, ◌||◌, not, List, [], ◌∷◌, ℕ, ◌+◌, ◌/◌, ◌%◌, eqb, leb, ltb, length}
+-- The table of refusals, for each call that a C host makes, on any input.
+use Rattle.std.specs.Prelude.{Bool, cond, ◌&&◌, ◌||◌, not, List, [], ◌∷◌, ℕ, ◌+◌, ◌/◌, ◌%◌, ◌<◌, eqb, leb, ltb, length}
 use Rattle.fields.specs.Modes.{mode_of}
+use Rattle.calendar.specs.Bytes.{clock_at}
 use Rattle.times.specs.Times.{is_valid, is_time}
-use Rattle.times.specs.Calls.{clock_at}
 use Rattle.divider.specs.Divider.{test_pattern}
 use Rattle.registers.specs.Bits.{dv_of}
 use Rattle.registers.specs.Access.{closed}
@@ -12,6 +12,7 @@ use Rattle.saved.specs.Rules.{keeps_rules}
 use Rattle.saved.specs.Calls.{record_size}
 use Rattle.mc146818.specs.Calls as host
 use Rattle.mc146818.specs.Calls.{time_by}
+use Rattle.demands.specs.HostEvents.{AreBytes}
 
 -- ---- the calls
 
@@ -91,7 +92,7 @@ rows_of (encodes bytes seconds weekday mode) = row 9 (not (eqb (length bytes) 7 
 
 -- ---- what is lent
 
--- Demand 1: the bytes of chip and page before a call. (The buffers of the time calls are neither.)
+-- Calls and their refusals: the bytes of chip and page before a call. (The buffers of the time calls are neither.)
 abbrev pub chip_before : HostCall → List ℕ
 chip_before (reads bytes address) = bytes
 chip_before (writes bytes address value) = bytes
@@ -103,7 +104,7 @@ chip_before (saves bytes page offset) = page
 chip_before (decodes bytes mode) = []
 chip_before (encodes bytes seconds weekday mode) = []
 
--- Demand 1: and after it. A save changes the page and not the chip.
+-- Calls and their refusals: and after it. A save changes the page and not the chip.
 abbrev pub chip_after : HostCall → List ℕ
 chip_after (reads bytes address) = (host.read bytes address).bytes
 chip_after (writes bytes address value) = (host.write bytes address value).bytes
@@ -114,3 +115,11 @@ chip_after (loads bytes input) = (host.load bytes input).bytes
 chip_after (saves bytes page offset) = (host.save bytes page offset).bytes
 chip_after (decodes bytes mode) = []
 chip_after (encodes bytes seconds weekday mode) = []
+
+-- Host interface: the chip or page that is lent to a call is of bytes, as it always is from C.
+abbrev pub LendsBytes : HostCall → Type 0
+LendsBytes call = AreBytes (chip_before call)
+
+-- Calls and their refusals: the answer of a call is the number of a refusal.
+abbrev pub IsRefused : HostCall → Type 0
+IsRefused call = 0 < answer_of call

@@ -13,16 +13,18 @@ use Rattle.calendar.specs.Advance.{one_second_on, ordinary}
 use Rattle.calendar.specs.Daylight.{advance}
 use Rattle.calendar.specs.Update.{update}
 use Rattle.times.specs.Times.{seconds_on}
+use Rattle.std.specs.Prelude.{Option}
+use Rattle.divider.specs.declared.Base.{Base}
 use Rattle.divider.specs.Divider.{running, moved, at_zero, at_end}
 use Rattle.divider.proofs.Laws.Formula as course
 use Rattle.divider.proofs.Laws.Formula.{Course}
 use Rattle.registers.specs.declared.Regs.{Regs}
-use Rattle.registers.specs.Bits.{dv_of, set_on, dse_on}
+use Rattle.registers.specs.Bits.{base_of, set_on, dse_on}
 use Rattle.ticks.specs.Tick.{counted, flagged, awaiting, new_time, updated, finished, tick, ticks}
 
 -- the registers stand where the course is, and their clock is the first one, as many seconds on as there were updates
-pub record Follows (dv : ℕ) (m : Mode) (first : Clock) (c : Course) (r : Regs) : Type 0 where
-  pub base : dv_of r.a ≡ dv
+pub record Follows (base : Option Base) (m : Mode) (first : Clock) (c : Course) (r : Regs) : Type 0 where
+  pub on_base : base_of r.a ≡ base
   pub mode : mode_of r.b ≡ m
   pub set_off : set_on r.b ≡ false
   pub dse_off : dse_on r.b ≡ false
@@ -41,23 +43,23 @@ plain_second : (r : Regs) → dse_on r.b ≡ false → (new_time r).clock ≡ on
 unfolding update advance ordinary
 plain_second r e = rw e
 
-module _ (dv : ℕ) (m : Mode) (first : Clock) (c : Course) (r : Regs) (on : running dv ≡ true) (f : Follows dv m first c r) where
+module _ (base : Option Base) (m : Mode) (first : Clock) (c : Course) (r : Regs) (on : running base ≡ true) (f : Follows base m first c r) where
   abbrev moved_on : Regs
   moved_on = awaiting (flagged (counted r))
 
-  same_divider : moved_on.divider ≡ moved dv c.divider
+  same_divider : moved_on.divider ≡ moved base c.divider
   unfolding awaiting flagged counted
-  same_divider = rw (f.base, f.divider)
+  same_divider = rw (f.on_base, f.divider)
 
-  same_base : dv_of moved_on.a ≡ dv
+  same_base : base_of moved_on.a ≡ base
   unfolding awaiting flagged counted
-  same_base = f.base
+  same_base = f.on_base
 
-  same_waits : moved_on.pending ≡ course.waits dv c
+  same_waits : moved_on.pending ≡ course.waits base c
   unfolding awaiting flagged counted
-  same_waits = rw (f.set_off, f.base, f.divider, f.pending) (waits_either_way c.pending (at_zero (moved dv c.divider)))
+  same_waits = rw (f.set_off, f.on_base, f.divider, f.pending) (waits_either_way c.pending (at_zero (moved base c.divider)))
 
-  same_end : moved_on.pending && at_end (dv_of moved_on.a) moved_on.divider ≡ course.ends dv c
+  same_end : moved_on.pending && at_end (base_of moved_on.a) moved_on.divider ≡ course.ends base c
   same_end = rw (same_waits, same_base, same_divider)
 
   and_not_self : (x y : Bool) → x && y ≡ false → x && not (x && y) ≡ x
@@ -76,46 +78,46 @@ module _ (dv : ℕ) (m : Mode) (first : Clock) (c : Course) (r : Regs) (on : run
   unfolding updated awaiting flagged counted
   new_clock = rw (plain_second (awaiting (flagged (counted r))) f.dse_off, f.mode)
 
-  ended : course.ends dv c ≡ true → Follows dv m first (course.tick dv c) (updated moved_on)
+  ended : course.ends base c ≡ true → Follows base m first (course.tick base c) (updated moved_on)
   unfolding course.tick
   ended e =
       record {
-        base = unfold updated in unfold awaiting in unfold flagged in unfold counted in f.base;
+        on_base = unfold updated in unfold awaiting in unfold flagged in unfold counted in f.on_base;
         mode = unfold updated in unfold awaiting in unfold flagged in unfold counted in f.mode;
         set_off = unfold updated in unfold awaiting in unfold flagged in unfold counted in f.set_off;
         dse_off = unfold updated in unfold awaiting in unfold flagged in unfold counted in f.dse_off;
         divider = unfold updated in same_divider;
-        pending = unfold updated in (sym (and_not_end (course.waits dv c) (at_end dv (moved dv c.divider)) e));
+        pending = unfold updated in (sym (and_not_end (course.waits base c) (at_end base (moved base c.divider)) e));
         clock = rw e (one_more c.updates (updated moved_on).clock r.clock f.clock new_clock);
       }
 
-  waiting : course.ends dv c ≡ false → Follows dv m first (course.tick dv c) moved_on
+  waiting : course.ends base c ≡ false → Follows base m first (course.tick base c) moved_on
   unfolding course.tick
   waiting e =
       record {
-        base = same_base;
+        on_base = same_base;
         mode = unfold awaiting in unfold flagged in unfold counted in f.mode;
         set_off = unfold awaiting in unfold flagged in unfold counted in f.set_off;
         dse_off = unfold awaiting in unfold flagged in unfold counted in f.dse_off;
         divider = same_divider;
-        pending = same_waits ∙ sym (and_not_self (course.waits dv c) (at_end dv (moved dv c.divider)) e);
+        pending = same_waits ∙ sym (and_not_self (course.waits base c) (at_end base (moved base c.divider)) e);
         clock = rw e (unfold awaiting in unfold flagged in unfold counted in f.clock);
       }
 
-  pub tick_follows : Follows dv m first (course.tick dv c) (tick r)
+  pub tick_follows : Follows base m first (course.tick base c) (tick r)
   unfolding tick finished
-  tick_follows = rw (f.base, on) (go (either (moved_on.pending && at_end (dv_of moved_on.a) moved_on.divider)))
+  tick_follows = rw (f.on_base, on) (go (either (moved_on.pending && at_end (base_of moved_on.a) moved_on.divider)))
     where
-      go : (moved_on.pending && at_end (dv_of moved_on.a) moved_on.divider ≡ true) ⊎ (moved_on.pending && at_end (dv_of moved_on.a) moved_on.divider ≡ false)
-          → Follows dv m first (course.tick dv c) (cond (moved_on.pending && at_end (dv_of moved_on.a) moved_on.divider) (updated moved_on) moved_on)
+      go : (moved_on.pending && at_end (base_of moved_on.a) moved_on.divider ≡ true) ⊎ (moved_on.pending && at_end (base_of moved_on.a) moved_on.divider ≡ false)
+          → Follows base m first (course.tick base c) (cond (moved_on.pending && at_end (base_of moved_on.a) moved_on.divider) (updated moved_on) moved_on)
       go (inl e) = rw e (ended (sym same_end ∙ e))
       go (inr e) = rw e (waiting (sym same_end ∙ e))
 
 -- n ticks after N of them
-pub ticks_follow : (dv : ℕ) (m : Mode) (first : Clock) (c : Course) (r : Regs) (done n : ℕ) → running dv ≡ true
-    → Follows dv m first (course.ticks dv done c) r → Follows dv m first (course.ticks dv (n + done) c) (ticks n r)
+pub ticks_follow : (base : Option Base) (m : Mode) (first : Clock) (c : Course) (r : Regs) (done n : ℕ) → running base ≡ true
+    → Follows base m first (course.ticks base done c) r → Follows base m first (course.ticks base (n + done) c) (ticks n r)
 unfolding ticks course.ticks
-ticks_follow dv m first c r done zero on f = let e : 0 + done ≡ done = omega arith in rw e f
-ticks_follow dv m first c r done (suc n) on f =
+ticks_follow base m first c r done zero on f = let e : 0 + done ≡ done = omega arith in rw e f
+ticks_follow base m first c r done (suc n) on f =
     let e : suc n + done ≡ suc (n + done) = omega arith in
-    rw e (tick_follows dv m first (course.ticks dv (n + done) c) (ticks n r) on (ticks_follow dv m first c r done n on f))
+    rw e (tick_follows base m first (course.ticks base (n + done) c) (ticks n r) on (ticks_follow base m first c r done n on f))

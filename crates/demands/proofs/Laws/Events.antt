@@ -8,15 +8,16 @@ use native.Mathlib.Omega.{arith}
 use lib.Dec.{eqb, leb}
 use borrow.Author.Tests.{eqb-true, lt-ltb, le-ltb}
 use Rattle.cases.proofs.Tests.{either, and_left, and_right, leb_case}
+use Rattle.std.specs.Prelude.{Option, Result, Ok, Err}
+use Rattle.refusals.specs.declared.Refusal.{Refusal}
 use Rattle.fields.specs.declared.Mode.{Mode}
 use Rattle.fields.specs.Modes.{mode_of}
 use Rattle.calendar.specs.declared.Clock.{Clock}
+use Rattle.divider.specs.declared.Base.{Base}
 use Rattle.divider.specs.Divider.{running}
 use Rattle.divider.proofs.Laws.Formula as course
 use Rattle.divider.proofs.Laws.Formula.{Course}
 use Rattle.registers.specs.declared.Regs.{Regs}
-use Rattle.registers.specs.declared.Verdict.{Verdict}
-use Rattle.registers.specs.declared.Verdict.TheVariants as verdict
 use Rattle.registers.specs.Access.{access, write_access}
 use Rattle.registers.specs.Calls.{after_read, write_plain, with_pins}
 use Rattle.registers.specs.Calls as registers
@@ -53,20 +54,20 @@ mode_under_reset b =
 bits_under_reset : (b : ℕ) → ((b / 128 * 128 + b % 8) / 128 % 2 ≡ b / 128 % 2) × ((b / 128 * 128 + b % 8) % 2 ≡ b % 2)
 bits_under_reset b = (omega arith, omega arith)
 
-module _ (dv : ℕ) (m : Mode) (first : Clock) (c : Course) where
-  read_follows : (r : Regs) (address : ℕ) → Follows dv m first c r → Follows dv m first c (after_read r address)
+module _ (base : Option Base) (m : Mode) (first : Clock) (c : Course) where
+  read_follows : (r : Regs) (address : ℕ) → Follows base m first c r → Follows base m first c (after_read r address)
   unfolding after_read
   read_follows r address f =
-      record { base = f.base; mode = f.mode; set_off = f.set_off; dse_off = f.dse_off; divider = f.divider; pending = f.pending; clock = f.clock }
+      record { on_base = f.on_base; mode = f.mode; set_off = f.set_off; dse_off = f.dse_off; divider = f.divider; pending = f.pending; clock = f.clock }
 
-  pins_follow : (r : Regs) (reset ps : Bool) → Follows dv m first c r → Follows dv m first c (with_pins r reset ps)
+  pins_follow : (r : Regs) (reset ps : Bool) → Follows base m first c r → Follows base m first c (with_pins r reset ps)
   unfolding with_pins
   pins_follow r true ps f =
-      record { base = f.base; mode = f.mode; set_off = f.set_off; dse_off = f.dse_off; divider = f.divider; pending = f.pending; clock = f.clock }
+      record { on_base = f.on_base; mode = f.mode; set_off = f.set_off; dse_off = f.dse_off; divider = f.divider; pending = f.pending; clock = f.clock }
   pins_follow r false ps f =
       let q = bits_under_reset r.b in
       record {
-        base = f.base;
+        on_base = f.on_base;
         mode = mode_under_reset r.b ∙ f.mode;
         set_off = rw q.0 f.set_off;
         dse_off = rw q.1 f.dse_off;
@@ -75,18 +76,18 @@ module _ (dv : ℕ) (m : Mode) (first : Clock) (c : Course) where
         clock = f.clock;
       }
 
-  chip_pins_follow : (chip : Chip) (reset ps : Bool) → Follows dv m first c chip.regs → Follows dv m first c (pins chip reset ps).regs
+  chip_pins_follow : (chip : Chip) (reset ps : Bool) → Follows base m first c chip.regs → Follows base m first c (pins chip reset ps).regs
   unfolding pins
   chip_pins_follow chip reset ps f = pins_follow chip.regs reset ps f
 
-  alarm_follows : (r : Regs) (address value : ℕ) → (address ≡ 1) ⊎ ((address ≡ 3) ⊎ (address ≡ 5)) → Follows dv m first c r → Follows dv m first c (registers.written r address value)
+  alarm_follows : (r : Regs) (address value : ℕ) → (address ≡ 1) ⊎ ((address ≡ 3) ⊎ (address ≡ 5)) → Follows base m first c r → Follows base m first c (registers.written r address value)
   unfolding registers.written write_plain
   alarm_follows r address value (inl e) f =
-      rw e (record { base = f.base; mode = f.mode; set_off = f.set_off; dse_off = f.dse_off; divider = f.divider; pending = f.pending; clock = f.clock })
+      rw e (record { on_base = f.on_base; mode = f.mode; set_off = f.set_off; dse_off = f.dse_off; divider = f.divider; pending = f.pending; clock = f.clock })
   alarm_follows r address value (inr (inl e)) f =
-      rw e (record { base = f.base; mode = f.mode; set_off = f.set_off; dse_off = f.dse_off; divider = f.divider; pending = f.pending; clock = f.clock })
+      rw e (record { on_base = f.on_base; mode = f.mode; set_off = f.set_off; dse_off = f.dse_off; divider = f.divider; pending = f.pending; clock = f.clock })
   alarm_follows r address value (inr (inr e)) f =
-      rw e (record { base = f.base; mode = f.mode; set_off = f.set_off; dse_off = f.dse_off; divider = f.divider; pending = f.pending; clock = f.clock })
+      rw e (record { on_base = f.on_base; mode = f.mode; set_off = f.set_off; dse_off = f.dse_off; divider = f.divider; pending = f.pending; clock = f.clock })
 
   which_alarm : (address : ℕ) → alarm_or_ram address ≡ true → leb 14 address ≡ false → (address ≡ 1) ⊎ ((address ≡ 3) ⊎ (address ≡ 5))
   which_alarm address e l = go (either (eqb address 1)) (either (eqb address 3)) (either (eqb address 5))
@@ -98,49 +99,49 @@ module _ (dv : ℕ) (m : Mode) (first : Clock) (c : Course) where
       go (inr x) (inr y) (inl z) = inr (inr (eqb-true address 5 z))
       go (inr x) (inr y) (inr z) = let q : false ≡ true = rw (x, y, z, l) at e in let n : ◌≡◌ {A = ℕ} 0 1 = cc in absurd (omega arith)
 
-  written_follows : (chip : Chip) (address value : ℕ) → alarm_or_ram address ≡ true → Follows dv m first c chip.regs → Follows dv m first c (written chip address value).regs
+  written_follows : (chip : Chip) (address value : ℕ) → alarm_or_ram address ≡ true → Follows base m first c chip.regs → Follows base m first c (written chip address value).regs
   unfolding written
   written_follows chip address value e f = go (either (leb 14 address))
     where
-      go : (leb 14 address ≡ true) ⊎ (leb 14 address ≡ false) → Follows dv m first c (written chip address value).regs
+      go : (leb 14 address ≡ true) ⊎ (leb 14 address ≡ false) → Follows base m first c (written chip address value).regs
       go (inl l) = rw l f
       go (inr l) = rw l (alarm_follows chip.regs address value (which_alarm address e l) f)
 
-  write_follows : (chip : Chip) (address value : ℕ) → alarm_or_ram address ≡ true → Follows dv m first c chip.regs → Follows dv m first c (write chip address value).chip.regs
+  write_follows : (chip : Chip) (address value : ℕ) → alarm_or_ram address ≡ true → Follows base m first c chip.regs → Follows base m first c (write chip address value).chip.regs
   unfolding write
   write_follows chip address value e f = go (write_access chip.regs address value)
     where
-      go : (v : Verdict) → Follows dv m first c (write_by v chip address value).chip.regs
-      go verdict.Open = written_follows chip address value e f
-      go (verdict.Refused why) = f
+      go : (v : Result (Unit {0}) Refusal) → Follows base m first c (write_by v chip address value).chip.regs
+      go (Ok _) = written_follows chip address value e f
+      go (Err why) = f
 
-  accepted_read_follows : (chip : Chip) (address : ℕ) → Follows dv m first c chip.regs → Follows dv m first c (read chip address).chip.regs
+  accepted_read_follows : (chip : Chip) (address : ℕ) → Follows base m first c chip.regs → Follows base m first c (read chip address).chip.regs
   unfolding read
   accepted_read_follows chip address f = go (access chip.regs address)
     where
-      go : (v : Verdict) → Follows dv m first c (read_by v chip address).chip.regs
-      go verdict.Open = read_follows chip.regs address f
-      go (verdict.Refused why) = f
+      go : (v : Result (Unit {0}) Refusal) → Follows base m first c (read_by v chip address).chip.regs
+      go (Ok _) = read_follows chip.regs address f
+      go (Err why) = f
 
-module _ (dv : ℕ) (m : Mode) (first : Clock) (c : Course) (on : running dv ≡ true) where
-  run_follows : (chip : Chip) (done n : ℕ) → Follows dv m first (course.ticks dv done c) chip.regs
-      → Follows dv m first (course.ticks dv (cond (leb n 65536) n 0 + done) c) (run chip n).chip.regs
+module _ (base : Option Base) (m : Mode) (first : Clock) (c : Course) (on : running base ≡ true) where
+  run_follows : (chip : Chip) (done n : ℕ) → Follows base m first (course.ticks base done c) chip.regs
+      → Follows base m first (course.ticks base (cond (leb n 65536) n 0 + done) c) (run chip n).chip.regs
   unfolding run
   run_follows chip done n f = go (leb_case n 65536)
     where
-      go : ((n ≤ 65536) × (leb n 65536 ≡ true)) ⊎ ((65536 < n) × (leb n 65536 ≡ false)) → Follows dv m first (course.ticks dv (cond (leb n 65536) n 0 + done) c) (run chip n).chip.regs
-      go (inl t) = rw (t.1, le-ltb 65536 n t.0, ticks_work_on_registers n chip) (ticks_follow dv m first c chip.regs done n on f)
+      go : ((n ≤ 65536) × (leb n 65536 ≡ true)) ⊎ ((65536 < n) × (leb n 65536 ≡ false)) → Follows base m first (course.ticks base (cond (leb n 65536) n 0 + done) c) (run chip n).chip.regs
+      go (inl t) = rw (t.1, le-ltb 65536 n t.0, ticks_work_on_registers n chip) (ticks_follow base m first c chip.regs done n on f)
       go (inr t) = let e : 0 + done ≡ done = omega arith in rw (t.1, lt-ltb 65536 n t.0, e) f
 
-  event_follows : (e : Event) (chip : Chip) (done : ℕ) → may_happen e ≡ true → Follows dv m first (course.ticks dv done c) chip.regs
-      → Follows dv m first (course.ticks dv (ticks_of e + done) c) (after e chip).regs
+  event_follows : (e : Event) (chip : Chip) (done : ℕ) → may_happen e ≡ true → Follows base m first (course.ticks base done c) chip.regs
+      → Follows base m first (course.ticks base (ticks_of e + done) c) (after e chip).regs
   event_follows (runs n) chip done h f = run_follows chip done n f
-  event_follows (reads address) chip done h f = let e : 0 + done ≡ done = omega arith in rw e (accepted_read_follows dv m first _ chip address f)
-  event_follows (levels reset ps) chip done h f = let e : 0 + done ≡ done = omega arith in rw e (chip_pins_follow dv m first _ chip reset ps f)
-  event_follows (writes address value) chip done h f = let e : 0 + done ≡ done = omega arith in rw e (write_follows dv m first _ chip address value h f)
+  event_follows (reads address) chip done h f = let e : 0 + done ≡ done = omega arith in rw e (accepted_read_follows base m first _ chip address f)
+  event_follows (levels reset ps) chip done h f = let e : 0 + done ≡ done = omega arith in rw e (chip_pins_follow base m first _ chip reset ps f)
+  event_follows (writes address value) chip done h f = let e : 0 + done ≡ done = omega arith in rw e (write_follows base m first _ chip address value h f)
 
-  pub events_follow : (es : List Event) (chip : Chip) (done : ℕ) → all_may_happen es ≡ true → Follows dv m first (course.ticks dv done c) chip.regs
-      → Follows dv m first (course.ticks dv (accepted_ticks es + done) c) (after_all es chip).regs
+  pub events_follow : (es : List Event) (chip : Chip) (done : ℕ) → all_may_happen es ≡ true → Follows base m first (course.ticks base done c) chip.regs
+      → Follows base m first (course.ticks base (accepted_ticks es + done) c) (after_all es chip).regs
   events_follow [] chip done h f = let e : 0 + done ≡ done = omega arith in rw e f
   events_follow (e ∷ es) chip done h f =
       let q : ticks_of e + accepted_ticks es + done ≡ accepted_ticks es + (ticks_of e + done) = omega arith in

@@ -10,14 +10,14 @@ use lib.ListN.{get_or, set}
 use lib.Seq.{get_or-set_same, get_or-set_other}
 use borrow.Author.Tests.{ne_eqb}
 use Rattle.cases.proofs.Tests.{eqb_case, leb_case, and_false}
-use Rattle.refusals.specs.Numbers.{number_of}
+use Rattle.std.specs.Prelude.{Result, Ok, Err}
+use Rattle.refusals.specs.declared.Refusal.{Refusal}
+use Rattle.refusals.specs.Numbers.{number_of, answer_number}
 use Rattle.refusals.proofs.Laws.{refusal_has_number}
-use Rattle.registers.specs.declared.Verdict.{Verdict}
-use Rattle.registers.specs.declared.Verdict.TheVariants as verdict
 use Rattle.registers.specs.Access.{write_access}
 use Rattle.chip.specs.declared.Chip.{Chip}
 use Rattle.chip.specs.Chips.{location, written}
-use Rattle.chip.specs.Calls.{answer_number, write_by, write}
+use Rattle.chip.specs.Calls.{write_by, write}
 use Rattle.chip.specs.Rules.{Rules}
 use Rattle.chip.proofs.Laws.Locations.{location_in_ram}
 use Rattle.chip.proofs.Laws.Changes.{read_leaves_ram, run_leaves_ram, pins_leave_ram}
@@ -58,9 +58,9 @@ module _ (address : ℕ) (low : 14 ≤ address) (high : address < 64) where
       accepted true = refl
       accepted false = refl
 
-      go : (v : Verdict) → location (write_by v chip a value).chip address ≡ cond (eqb a address && eqb (answer_number (write_by v chip a value).answer) 0) value (location chip address)
-      go verdict.Open = rw (accepted (eqb a address)) (stored_byte chip a value k)
-      go (verdict.Refused why) = rw (ne_eqb (number_of why) 0 (refusal_has_number why), and_false (eqb a address))
+      go : (v : Result (Unit {0}) Refusal) → location (write_by v chip a value).chip address ≡ cond (eqb a address && eqb (answer_number (write_by v chip a value).answer) 0) value (location chip address)
+      go (Ok _) = rw (accepted (eqb a address)) (stored_byte chip a value k)
+      go (Err why) = rw (ne_eqb (number_of why) 0 (refusal_has_number why), and_false (eqb a address))
 
   event_byte : (e : Event) (chip : Chip) → Rules chip → location (after e chip) address ≡ kept_byte address (location chip address) chip e
   event_byte (runs n) chip k = same_ram chip _ (run_leaves_ram chip n)
