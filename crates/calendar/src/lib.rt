@@ -10,7 +10,8 @@ ghost use Rattle.calendar.specs.Update.{matches_byte, alarm_matches, update};
 
 use fields::{DataMode, Mode};
 
-/// The clock's locations 0, 2, 4, 6, 7, 8 and 9, as raw bytes: any byte may stand in any field.
+/// The clock's locations 0, 2, 4, 6, 7, 8 and 9, as raw bytes: any byte may stand in any field, and what is said of each is the mode's byte for
+/// such a number.
 #[derive(Clone, Copy, Debug, Default, PartialEq, Eq)]
 pub struct Clock {
     /// Location 0: 0 to 59.
@@ -71,7 +72,7 @@ fn is_leap(data: DataMode, year: u8) -> bool
     data.is_in_range(0, 99, year) && data.value(year) % 4 == 0
 }
 
-/// The last day of a month from 1 to 12. The month is a number, as its bytes and its table have it: a type of its own would ask callers for one.
+/// The last day of a month from 1 to 12, in a leap year where `leap` says so. The month is a number, as its bytes and its table have it: a type of its own would ask callers for one.
 #[tactic(auto, using(crate::proofs::Laws::Days::february_29, crate::proofs::Laws::Days::table_has_the_rest), unfolding(crate::specs::Days::last_days))]
 pub fn last_day(leap: bool, month: u8) -> u8
     requires { (1 ≤ month) × (month ≤ 12) }
@@ -207,7 +208,8 @@ impl Clock {
         self.is_at_change(mode) && self.is_in_days(mode.data, 10, 25, 31) && !used
     }
 
-    /// One second on, with daylight saving where `dse`, bit 0 of register B, says so.
+    /// One second on, with daylight saving where `dse`, bit 0 of register B, says so. Mode, DSE and mark are three parameters, since no two of the calls
+    /// take the same of them.
     #[tactic(auto, unfolding(crate::specs::Daylight::advance))]
     pub fn advanced(self, mode: Mode, dse: bool, used: bool) -> Advanced
         ensures { result ≡ advance mode dse used self }

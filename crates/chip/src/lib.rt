@@ -6,7 +6,7 @@ ghost use Rattle.chip.specs.Chips.{location, fresh, written, ticked};
 ghost use Rattle.chip.specs.Calls.{read, write, run, pins, lines};
 
 use refusals::Refusal;
-use registers::Regs;
+use registers::{FIRST_OF_RAM, Regs};
 
 /// The most ticks that one call of `run` makes.
 pub const MOST_TICKS: u32 = 65_536;
@@ -14,7 +14,9 @@ pub const MOST_TICKS: u32 = 65_536;
 /// The registers, and the user RAM at locations 14 to 63.
 #[derive(Clone, Copy, Debug, PartialEq, Eq)]
 pub struct Chip {
+    /// Locations 0 to 13, and what stands at none.
     pub regs: Regs,
+    /// Locations 14 to 63.
     pub ram: [u8; 50],
 }
 
@@ -46,8 +48,8 @@ impl Chip {
         ensures { result ≡ location self.now address }
     {
         // There is no `From<u32>` for `usize`; an address below 64 keeps its number.
-        if address >= 14 {
-            return self.ram[address as usize - 14];
+        if address >= FIRST_OF_RAM {
+            return self.ram[(address - FIRST_OF_RAM) as usize];
         }
         self.regs.register_bytes()[address as usize]
     }
@@ -71,8 +73,8 @@ impl Chip {
         requires { address < 64 }
         ensures { self.new ≡ written self.old address value }
     {
-        if address >= 14 {
-            self.ram[address as usize - 14] = value;
+        if address >= FIRST_OF_RAM {
+            self.ram[(address - FIRST_OF_RAM) as usize] = value;
         } else {
             self.regs.write(address, value);
         }

@@ -10,7 +10,8 @@ use lib.Dec.{eqb, leb, ltb}
 use lib.ListN.{length, get_or, replicate, get_or-append, length-append}
 use borrow.Author.Tests.{le-leb, lt-leb}
 use Rattle.std.specs.Prelude.{Result, Ok, Err}
-use Rattle.cases.proofs.Tests.{either, ltb_case}
+use Rattle.std.proofs.lemmas.Bool.{cases_Bool}
+use Rattle.cases.proofs.Tests.{ltb_case}
 use Rattle.refusals.specs.declared.Refusal.{Refusal}
 use Rattle.refusals.specs.Numbers.{answer_number}
 use Rattle.refusals.proofs.Laws.{number_is_1_to_10}
@@ -37,7 +38,7 @@ use Rattle.saved.specs.Calls as saved
 use Rattle.saved.specs.Calls.{record_size}
 use Rattle.mc146818.specs.Words.{byte_word, answer_word, lines_word, decoded_word}
 use Rattle.mc146818.specs.Calls as host
-use Rattle.mc146818.specs.Calls.{asked, left, stored, page_by, time_by}
+use Rattle.mc146818.specs.Calls.{asked, bytes_after, stored, page_by, time_by}
 use Rattle.demands.specs.Table.{HostCall, reads, writes, runs, pins, lines, loads, saves, decodes, encodes, answer_in, answer_of, first, rows_of, chip_before, chip_after}
 use Rattle.demands.specs.HostEvents.{AreBytes}
 
@@ -123,7 +124,7 @@ answer_is_told (encodes bytes seconds weekday mode) small = in_answer_word (enco
 asked_by_the_table : {A : Type 0} (bytes : List ℕ) (ask : Chip → Result A Refusal) (n : ℕ) → answer_number (ask (chip_of bytes)) ≡ n
     → answer_number (asked (saved.load bytes) ask) ≡ cond (not (eqb (length bytes) record_size)) 1 (cond (not (keeps_rules bytes)) 8 n)
 unfolding saved.load
-asked_by_the_table {A} bytes ask n e = go (either (eqb (length bytes) record_size)) (either (keeps_rules bytes))
+asked_by_the_table {A} bytes ask n e = go (cases_Bool (eqb (length bytes) record_size)) (cases_Bool (keeps_rules bytes))
   where
     go : (eqb (length bytes) record_size ≡ true) ⊎ (eqb (length bytes) record_size ≡ false) → (keeps_rules bytes ≡ true) ⊎ (keeps_rules bytes ≡ false)
         → answer_number (asked (saved.load bytes) ask) ≡ cond (not (eqb (length bytes) record_size)) 1 (cond (not (keeps_rules bytes)) 8 n)
@@ -143,7 +144,7 @@ save_refusals c page offset = go (ltb_case (length page) (offset + record_size))
 decode_refusals : (bytes : List ℕ) (mode : ℕ)
     → answer_number (decoded (mode_of mode) bytes) ≡ cond (not (eqb (length bytes) 7 && is_valid (mode_of mode) (clock_at bytes))) 9 0
 unfolding decoded
-decode_refusals bytes mode = go (either (eqb (length bytes) 7 && is_valid (mode_of mode) (clock_at bytes)))
+decode_refusals bytes mode = go (cases_Bool (eqb (length bytes) 7 && is_valid (mode_of mode) (clock_at bytes)))
   where
     go : (eqb (length bytes) 7 && is_valid (mode_of mode) (clock_at bytes) ≡ true) ⊎ (eqb (length bytes) 7 && is_valid (mode_of mode) (clock_at bytes) ≡ false)
         → answer_number (decoded (mode_of mode) bytes) ≡ cond (not (eqb (length bytes) 7 && is_valid (mode_of mode) (clock_at bytes))) 9 0
@@ -153,7 +154,7 @@ decode_refusals bytes mode = go (either (eqb (length bytes) 7 && is_valid (mode_
 encode_refusals : (bytes : List ℕ) (seconds weekday mode : ℕ)
     → answer_number (encoded (mode_of mode) (time_by seconds weekday) bytes).answer ≡ cond (not (eqb (length bytes) 7 && is_time (time_by seconds weekday))) 9 0
 unfolding encoded
-encode_refusals bytes seconds weekday mode = go (either (eqb (length bytes) 7 && is_time (time_by seconds weekday)))
+encode_refusals bytes seconds weekday mode = go (cases_Bool (eqb (length bytes) 7 && is_time (time_by seconds weekday)))
   where
     go : (eqb (length bytes) 7 && is_time (time_by seconds weekday) ≡ true) ⊎ (eqb (length bytes) 7 && is_time (time_by seconds weekday) ≡ false)
         → answer_number (encoded (mode_of mode) (time_by seconds weekday) bytes).answer ≡ cond (not (eqb (length bytes) 7 && is_time (time_by seconds weekday))) 9 0
@@ -179,7 +180,7 @@ refusals_by_the_table call small = answer_is_told call small ∙ told_by_the_tab
 
 -- the bytes are left where the chip in them does not load, and where the call is refused
 left_where_refused : {A : Type 0} (bytes : List ℕ) (r : Result Chip Refusal) (ask : Chip → Result A Refusal) (next : Chip → Chip)
-    → 0 < answer_number (asked r ask) → left bytes r ask next ≡ bytes
+    → 0 < answer_number (asked r ask) → bytes_after bytes r ask next ≡ bytes
 left_where_refused {A} bytes (Ok c) ask next h = go (ask c) h
   where
     go : (answer : Result A Refusal) → 0 < answer_number answer → stored bytes answer (next c) ≡ bytes
@@ -189,7 +190,7 @@ left_where_refused bytes (Err why) ask next h = refl
 
 page_where_refused : (r : Result Chip Refusal) (page : List ℕ) (offset : ℕ) → 0 < answer_number (asked r (λ c. (saved.save c page offset).answer)) → page_by r page offset ≡ page
 unfolding saved.save
-page_where_refused (Ok c) page offset h = go (either (leb (offset + record_size) (length page))) h
+page_where_refused (Ok c) page offset h = go (cases_Bool (leb (offset + record_size) (length page))) h
   where
     go : (leb (offset + record_size) (length page) ≡ true) ⊎ (leb (offset + record_size) (length page) ≡ false) → 0 < answer_number (saved.save c page offset).answer → (saved.save c page offset).page ≡ page
     go (inl t) h = let z : 0 < 0 = rw t at h in absurd (omega arith)
@@ -216,7 +217,7 @@ refusal_changes_nothing call small h = kept_where_told call (rw (answer_is_told 
 pub refused_encode_gives_zeros : (bytes : List ℕ) (seconds weekday mode : ℕ) → 0 < answer_of (encodes bytes seconds weekday mode)
     → (host.encode bytes seconds weekday mode).bytes ≡ replicate (length bytes) 0
 unfolding host.encode encoded
-refused_encode_gives_zeros bytes seconds weekday mode h = go (either (eqb (length bytes) 7 && is_time (time_by seconds weekday))) h
+refused_encode_gives_zeros bytes seconds weekday mode h = go (cases_Bool (eqb (length bytes) 7 && is_time (time_by seconds weekday))) h
   where
     go : (eqb (length bytes) 7 && is_time (time_by seconds weekday) ≡ true) ⊎ (eqb (length bytes) 7 && is_time (time_by seconds weekday) ≡ false)
         → 0 < answer_in (host.encode bytes seconds weekday mode).word → (host.encode bytes seconds weekday mode).bytes ≡ replicate (length bytes) 0

@@ -9,7 +9,7 @@ use native.Mathlib.Omega.{arith}
 use lib.Dec.{eqb}
 use lib.ListN.{length, take, drop}
 use borrow.Author.Tests.{eq-eqb, eqb-true}
-use Rattle.cases.proofs.Tests.{either, and_left, and_right}
+use Rattle.std.proofs.lemmas.Bool.{and_parts, cases_Bool}
 use Rattle.std.specs.Prelude.{Result, Ok, Err}
 use Rattle.refusals.specs.declared.Refusal.{Refusal}
 use Rattle.refusals.specs.declared.Refusal.TheVariants as refusal
@@ -39,15 +39,15 @@ encode_then_decode_is_the_same_time m t buffer size e =
 pub decode_then_encode_is_the_same_bytes : (m : Mode) (bytes : List ℕ) (t : Time) (buffer : List ℕ) → decoded m bytes ≡ Ok t → length buffer ≡ 7
     → encoded m t buffer ≡ encoding_of (Ok tt) bytes
 unfolding decoded encoded
-decode_then_encode_is_the_same_bytes m bytes t buffer d size = go (either (eqb (length bytes) 7 && is_valid m (clock_at bytes))) d
+decode_then_encode_is_the_same_bytes m bytes t buffer d size = go (cases_Bool (eqb (length bytes) 7 && is_valid m (clock_at bytes))) d
   where
     go : (eqb (length bytes) 7 && is_valid m (clock_at bytes) ≡ true) ⊎ (eqb (length bytes) 7 && is_valid m (clock_at bytes) ≡ false)
         → decoded m bytes ≡ Ok t → encoded m t buffer ≡ encoding_of (Ok tt) bytes
     go (inl s) d =
         let told : ◌≡◌ {A = Result Time Refusal} (Ok (time_of m (clock_at bytes))) (Ok t) = rw s at d in
         let same : time_of m (clock_at bytes) ≡ t = cc in
-        let r = decode_then_encode m (clock_at bytes) (and_right (eqb (length bytes) 7) _ s) in
-        let long = eqb-true (length bytes) 7 (and_left (eqb (length bytes) 7) _ s) in
+        let r = decode_then_encode m (clock_at bytes) ((and_parts (eqb (length bytes) 7) _ s).1) in
+        let long = eqb-true (length bytes) 7 ((and_parts (eqb (length bytes) 7) _ s).0) in
         rw (← same, eq-eqb (length buffer) 7 size, r.0, r.1, seven_are_a_clock bytes long)
     go (inr s) d =
         let told : ◌≡◌ {A = Result Time Refusal} (Err refusal.Time) (Ok t) = rw s at d in

@@ -30,7 +30,7 @@ use Rattle.saved.specs.Record.{record_of}
 use Rattle.saved.specs.Calls.{load}
 use Rattle.saved.proofs.Laws.Calls.{store_then_load, load_then_store, loaded_keeps_rules}
 use Rattle.mc146818.specs.Calls as host
-use Rattle.mc146818.specs.Calls.{left, stored}
+use Rattle.mc146818.specs.Calls.{bytes_after, stored}
 use Rattle.demands.specs.Events.{Event, runs, reads, levels, writes, all_may_happen, after, after_all, accepted_ticks, updates_after, last_accepted, time_shown, seconds_shown, ShowsATime, NoneSetsTheTime, updates, midnights, KeepsTime, TimeWasKept}
 use Rattle.demands.specs.Saving.{Holds}
 use Rattle.demands.specs.HostEvents.{levels_word, host_after, host_after_all, AreBytes}
@@ -124,8 +124,8 @@ stored_after (Err why) c now same = ap record_of (sym (same (omega (arith, numbe
 
 -- a chip's own bytes load, and the call is made on that chip
 on_its_bytes : {A : Type 0} (c : Chip) (ask : Chip → Result A Refusal) (next : Chip → Chip) → Rules c → (0 < answer_number (ask c) → next c ≡ c)
-    → left (record_of c) (load (record_of c)) ask next ≡ record_of (next c)
-on_its_bytes c ask next k same = ap (λ (r : Result Chip Refusal). left (record_of c) r ask next) (store_then_load c k) ∙ stored_after (ask c) c (next c) same
+    → bytes_after (record_of c) (load (record_of c)) ask next ≡ record_of (next c)
+on_its_bytes c ask next k same = ap (λ (r : Result Chip Refusal). bytes_after (record_of c) r ask next) (store_then_load c k) ∙ stored_after (ask c) c (next c) same
 
 -- a host's call on a chip's bytes leaves the bytes of the chip that the call leaves
 host_event : (e : Event) (c : Chip) → Rules c → host_after e (record_of c) ≡ record_of (after e c)

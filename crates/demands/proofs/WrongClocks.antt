@@ -8,7 +8,7 @@ use Prim.Native.Nat.{ℕ, ◌+◌, ◌-◌, ◌*◌, ◌/◌, ◌%◌, ◌<◌}
 use native.Mathlib.Omega.{arith}
 use lib.Dec.{leb}
 use lib.ListN.{length, length-replicate}
-use Rattle.cases.proofs.Tests.{false_is_not_true}
+use Rattle.std.proofs.lemmas.Bool.{false≢true}
 use Rattle.refusals.specs.Numbers.{answer_number}
 use Rattle.fields.specs.Modes.{mode_of}
 use Rattle.calendar.specs.Days.{last_days, last_day_of}
@@ -50,7 +50,7 @@ released_sound =
       uf = λ e. refl;
       set = λ e. refl;
       runs = λ e. refl;
-      before_the_end = λ e. false_is_not_true e;
+      before_the_end = λ e. absurd (false≢true e);
     }
 
 released_ram : length released.ram ≡ 50

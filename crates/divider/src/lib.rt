@@ -58,7 +58,7 @@ impl Base {
         }
     }
 
-    /// How far a count is past a multiple of the step. Each divisor is a number, so that none is divided by as it runs.
+    /// How far a count is past a multiple of the step. Each divisor is a constant, so that no division is left in the compiled code.
     fn past_step(self, count: u32) -> u32
         ensures past { result ≡ count % meaning.step_on self }
         ensures within { result ≤ count }
@@ -78,15 +78,23 @@ pub fn is_test_pattern(dv: u8) -> bool
     (3..=5).contains(&dv)
 }
 
-/// The count at which a pending update ends; where no base runs, that of the two faster ones.
-#[tactic(auto, unfolding(crate::specs::Divider::end_of))]
-fn end_of(base: Option<Base>) -> u32
-    ensures { result ≡ meaning.end_of base }
+/// What a tick adds to the count: the step of the base, and 0 where none runs.
+#[tactic(auto, unfolding(crate::specs::Divider::step_of))]
+pub fn step_of(base: Option<Base>) -> u32
+    ensures { result ≡ meaning.step_of base }
 {
     match base {
-        None => 2064,
-        Some(base) => base.end(),
+        None => 0,
+        Some(base) => base.step(),
     }
+}
+
+/// E, the count at which a pending update ends; where no base runs, that of the two faster ones.
+#[tactic(auto, unfolding(crate::specs::Divider::end_of))]
+pub fn end_of(base: Option<Base>) -> u32
+    ensures { result ≡ meaning.end_of base }
+{
+    base.unwrap_or(Base::Fastest).end()
 }
 
 /// The rate as which a rate acts. A step of 128 never moves bit 6: the chip lets the two fastest rates act as slower ones there.
@@ -100,7 +108,7 @@ fn acts_as(base: Option<Base>, rate: u8) -> u32
     }
 }
 
-/// The bit of the count that a rate, 1 to 15, selects.
+/// The bit of the count that a rate, 1 to 15, selects. The rate is a number and no enum, since its tap is told by a sum.
 #[tactic(auto, using(crate::proofs::Laws::Tap::acts_as_at_most_7_more), unfolding(crate::specs::Divider::tap_of))]
 pub fn tap_of(base: Option<Base>, rate: u8) -> u32
     ensures { result ≡ meaning.tap_of base rate }
@@ -116,9 +124,10 @@ fn bit_at(count: u32, place: u32) -> u32
     (count >> place) % 2
 }
 
-/// The divider: a count that is below 4,194,304 on every chip.
+/// The divider. Any number may stand in it; a chip that loads has one of its base's counts.
 #[derive(Clone, Copy, Debug, PartialEq, Eq)]
 pub struct Divider {
+    /// 0 to 4,194,303.
     pub count: u32,
 }
 

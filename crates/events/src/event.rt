@@ -26,7 +26,7 @@ pub enum Event {
     Pins { reset: bool, ps: bool },
 }
 
-/// What a record's line shows of its call.
+/// What a record's line shows of its call. No `Result` of a byte: a refused read shows 255, and any other refusal 0.
 #[derive(Clone, Copy, Debug, PartialEq, Eq)]
 pub struct Shown {
     /// Whether the call is accepted, or why it is refused.

@@ -7,7 +7,7 @@ ghost use Rattle.events.specs.Text.{decimal, level, text_of, line_room};
 use itoa::write_digits;
 use std::marker::Model;
 
-/// Room that every line fits into, in bytes.
+/// Room that every line fits into, in bytes. Lines are put into room that the caller lends, as nothing here allocates.
 pub const LINE_ROOM: usize = 24;
 
 /// What the line of a record shows.

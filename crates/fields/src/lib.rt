@@ -8,10 +8,10 @@ ghost use Rattle.fields.specs.Hours.{hour_of, hour_byte, hour_in_range};
 ghost use Rattle.fields.specs.Steps.{step, half_day_step, hour_step};
 
 /// DM, bit 2 of register B: 1 for binary.
-const DM: u8 = 0x04;
+pub const DM: u8 = 0x04;
 
 /// 24/12, bit 1 of register B: 1 for 24 hours.
-const HOURS_24: u8 = 0x02;
+pub const HOURS_24: u8 = 0x02;
 
 /// How a byte of the clock stands for a number: bit 2 of register B, DM.
 #[derive(Clone, Copy, Debug, PartialEq, Eq)]
@@ -92,14 +92,15 @@ impl DataMode {
         }
     }
 
-    /// Whether a byte stands for a number from `first` to `last`, as in the data sheet's table 3.
+    /// Whether a byte stands for a number from `first` to `last`, as in the data sheet's table 3. The bounds are numbers, which a range type would only
+    /// wrap.
     pub fn is_in_range(self, first: u8, last: u8, byte: u8) -> bool
         ensures { result ≡ in_range self first last byte }
     {
         self.has_digits(byte) & (first..=last).contains(&self.value(byte))
     }
 
-    /// A field that goes from `first` to `last`, after an update that carries into it or not.
+    /// A field that goes from `first` to `last`, both below 100, after an update that carries into it or not.
     #[tactic(auto, using(crate::proofs::Laws::Bytes::byte_small), unfolding(crate::specs::Steps::step))]
     pub fn step(self, first: u8, last: u8, carried: bool, byte: u8) -> Stepped
         requires { (first < 100) × (last < 100) }

@@ -23,10 +23,10 @@ abbrev pub stored : {A : Type 0} → List ℕ → Result A Refusal → Chip → 
 stored bytes (Ok _) chip = record_of chip
 stored bytes (Err why) chip = bytes
 
--- Calls and their refusals: and they stay where the chip does not load.
-abbrev pub left : {A : Type 0} → List ℕ → Result Chip Refusal → (Chip → Result A Refusal) → (Chip → Chip) → List ℕ
-left bytes (Ok chip) ask next = stored bytes (ask chip) (next chip)
-left bytes (Err why) ask next = bytes
+-- Calls and their refusals: the bytes that a call leaves. They stay too where the chip does not load.
+abbrev pub bytes_after : {A : Type 0} → List ℕ → Result Chip Refusal → (Chip → Result A Refusal) → (Chip → Chip) → List ℕ
+bytes_after bytes (Ok chip) ask next = stored bytes (ask chip) (next chip)
+bytes_after bytes (Err why) ask next = bytes
 
 -- Calls and their refusals: an answer that is never refused.
 abbrev pub accepted : Chip → Result (Unit {0}) Refusal
@@ -40,7 +40,7 @@ read_answer bytes address = asked (saved.load bytes) (λ c. (chip.read c address
 
 -- Calls and their refusals: the bytes that a read leaves.
 abbrev pub read_bytes : List ℕ → ℕ → List ℕ
-read_bytes bytes address = left bytes (saved.load bytes) (λ c. (chip.read c address).answer) (λ c. (chip.read c address).chip)
+read_bytes bytes address = bytes_after bytes (saved.load bytes) (λ c. (chip.read c address).answer) (λ c. (chip.read c address).chip)
 
 -- Calls and their refusals: write.
 abbrev pub write_answer : List ℕ → ℕ → ℕ → Result (Unit {0}) Refusal
@@ -49,7 +49,7 @@ write_answer bytes address value = asked (saved.load bytes) (λ c. (chip.write c
 -- Calls and their refusals: the bytes that a write leaves.
 abbrev pub write_bytes : List ℕ → ℕ → ℕ → List ℕ
 write_bytes bytes address value =
-    left bytes (saved.load bytes) (λ c. (chip.write c address value).answer) (λ c. (chip.write c address value).chip)
+    bytes_after bytes (saved.load bytes) (λ c. (chip.write c address value).answer) (λ c. (chip.write c address value).chip)
 
 -- Calls and their refusals: run.
 abbrev pub run_answer : List ℕ → ℕ → Result (Unit {0}) Refusal
@@ -57,7 +57,7 @@ run_answer bytes ticks = asked (saved.load bytes) (λ c. (chip.run c ticks).answ
 
 -- Calls and their refusals: the bytes that a run leaves.
 abbrev pub run_bytes : List ℕ → ℕ → List ℕ
-run_bytes bytes ticks = left bytes (saved.load bytes) (λ c. (chip.run c ticks).answer) (λ c. (chip.run c ticks).chip)
+run_bytes bytes ticks = bytes_after bytes (saved.load bytes) (λ c. (chip.run c ticks).answer) (λ c. (chip.run c ticks).chip)
 
 -- Host interface: bit 0 of the levels is RESET high, bit 1 is PS high; no other bit counts.
 abbrev pub reset_high : ℕ → Bool
@@ -73,7 +73,7 @@ pins_answer bytes = asked (saved.load bytes) accepted
 
 -- Calls and their refusals: the bytes that new levels leave.
 abbrev pub pins_bytes : List ℕ → ℕ → List ℕ
-pins_bytes bytes levels = left bytes (saved.load bytes) accepted (λ c. chip.pins c (reset_high levels) (ps_high levels))
+pins_bytes bytes levels = bytes_after bytes (saved.load bytes) accepted (λ c. chip.pins c (reset_high levels) (ps_high levels))
 
 -- Calls and their refusals: nor are the lines, which leave the bytes as they are.
 abbrev pub lines_answer : List ℕ → Result Levels Refusal
@@ -85,7 +85,7 @@ load_answer input = asked (saved.load input) accepted
 
 -- Calls and their refusals: a load replaces the chip where the input loads; the chip that stood there need not.
 abbrev pub load_bytes : List ℕ → List ℕ → List ℕ
-load_bytes bytes input = left bytes (saved.load input) accepted (λ c. c)
+load_bytes bytes input = bytes_after bytes (saved.load input) accepted (λ c. c)
 
 -- Calls and their refusals: the chip is loaded first here too, before the page is looked at.
 abbrev pub save_answer : List ℕ → List ℕ → ℕ → Result (Unit {0}) Refusal

@@ -14,7 +14,7 @@ abbrev pub byte_word : Result ℕ Refusal → ℕ
 byte_word (Ok byte) = byte
 byte_word (Err why) = refused_word 255 why
 
--- Host interface, result words: any other call has byte 0 where it is refused, and where it is accepted 0 too, but for the lines.
+-- Host interface, result words: a call that has no byte shows 0, accepted or refused.
 abbrev pub answer_word : Result (Unit {0}) Refusal → ℕ
 answer_word (Ok _) = 0
 answer_word (Err why) = refused_word 0 why

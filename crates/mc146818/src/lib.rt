@@ -14,19 +14,20 @@ ghost use Rattle.mc146818.specs.Calls.{read_answer, read_bytes, write_answer, wr
 use chip::{Chip, Levels};
 use fields::Mode;
 use refusals::Refusal;
+use saved::RECORD_SIZE;
 use times::Time;
 
 // ---- the calls on a chip: each has the same three lines, as a closure between load and store would have its promise written out at every call
 
 /// Writes a fresh chip over whatever stood there.
-pub fn fresh(bytes: &mut [u8; 72])
+pub fn fresh(bytes: &mut [u8; RECORD_SIZE])
     ensures { bytes.new ≡ record_of fresh }
 {
     saved::store(&Chip::fresh(), bytes);
 }
 
 /// Reads the byte at an address. Refused with `Rules`, or as `Chip::read` is.
-pub fn read(bytes: &mut [u8; 72], address: u32) -> Result<u8, Refusal>
+pub fn read(bytes: &mut [u8; RECORD_SIZE], address: u32) -> Result<u8, Refusal>
     ensures answer { result ≡ read_answer bytes.old address }
     ensures bytes { bytes.new ≡ read_bytes bytes.old address }
 {
@@ -37,7 +38,7 @@ pub fn read(bytes: &mut [u8; 72], address: u32) -> Result<u8, Refusal>
 }
 
 /// Writes a byte at an address. Refused with `Rules`, or as `Chip::write` is.
-pub fn write(bytes: &mut [u8; 72], address: u32, value: u8) -> Result<(), Refusal>
+pub fn write(bytes: &mut [u8; RECORD_SIZE], address: u32, value: u8) -> Result<(), Refusal>
     ensures answer { result ≡ write_answer bytes.old address value }
     ensures bytes { bytes.new ≡ write_bytes bytes.old address value }
 {
@@ -48,7 +49,7 @@ pub fn write(bytes: &mut [u8; 72], address: u32, value: u8) -> Result<(), Refusa
 }
 
 /// Makes a number of ticks. Refused with `Rules`, or as `Chip::run` is.
-pub fn run(bytes: &mut [u8; 72], ticks: u32) -> Result<(), Refusal>
+pub fn run(bytes: &mut [u8; RECORD_SIZE], ticks: u32) -> Result<(), Refusal>
     ensures answer { result ≡ run_answer bytes.old ticks }
     ensures bytes { bytes.new ≡ run_bytes bytes.old ticks }
 {
@@ -60,7 +61,7 @@ pub fn run(bytes: &mut [u8; 72], ticks: u32) -> Result<(), Refusal>
 
 /// Puts the pins at new levels: bit 0 is RESET and bit 1 is PS, and 1 is high; the other bits say nothing. Refused with `Rules` alone. The levels are a
 /// word of the C interface, of 32 bits.
-pub fn pins(bytes: &mut [u8; 72], levels: u32) -> Result<(), Refusal>
+pub fn pins(bytes: &mut [u8; RECORD_SIZE], levels: u32) -> Result<(), Refusal>
     ensures answer { result ≡ pins_answer bytes.old }
     ensures bytes { bytes.new ≡ pins_bytes bytes.old levels }
 {
@@ -71,14 +72,14 @@ pub fn pins(bytes: &mut [u8; 72], levels: u32) -> Result<(), Refusal>
 }
 
 /// The levels of the two lines. Refused with `Rules` alone.
-pub fn lines(bytes: &[u8; 72]) -> Result<Levels, Refusal>
+pub fn lines(bytes: &[u8; RECORD_SIZE]) -> Result<Levels, Refusal>
     ensures { result ≡ lines_answer bytes.now }
 {
     Ok(saved::load(bytes)?.lines())
 }
 
 /// Puts the chip that was saved as `input` into the bytes; the chip that stood there need not load. Refused as `saved::load` is.
-pub fn load(bytes: &mut [u8; 72], input: &[u8]) -> Result<(), Refusal>
+pub fn load(bytes: &mut [u8; RECORD_SIZE], input: &[u8]) -> Result<(), Refusal>
     ensures answer { result ≡ load_answer input.now }
     ensures bytes { bytes.new ≡ load_bytes bytes.old input.now }
 {
@@ -88,7 +89,7 @@ pub fn load(bytes: &mut [u8; 72], input: &[u8]) -> Result<(), Refusal>
 }
 
 /// Saves the chip at an offset inside a page. Refused with `Rules`, or as `saved::save` is; the page then stays as it was.
-pub fn save(bytes: &[u8; 72], page: &mut [u8], offset: usize) -> Result<(), Refusal>
+pub fn save(bytes: &[u8; RECORD_SIZE], page: &mut [u8], offset: usize) -> Result<(), Refusal>
     ensures answer { result ≡ save_answer bytes.now page.old offset }
     ensures page { page.new ≡ save_page bytes.now page.old offset }
 {

@@ -187,7 +187,8 @@ impl<R: Print> Bench<R> {
         println!(self.rt; "  {ticks} ticks: {}", answer_number(&answer))
     }
 
-    /// Ticks one at a time, with a read of C after each, until a flag is up or the read is refused. Returns how many ticks it made, `most` at most.
+    /// Ticks one at a time, with a read of C after each, until a flag is up or the read is refused. Returns how many ticks it made, `most` at most: it is
+    /// this number that is shown, also where no flag rose.
     fn until_flag(&mut self, most: u32) -> u32 {
         for made in 1..=most {
             self.chip.tick();

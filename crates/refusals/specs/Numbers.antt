@@ -21,7 +21,7 @@ abbrev pub answer_number : {A : Type 0} → Result A Refusal → ℕ
 answer_number (Ok given) = 0
 answer_number (Err why) = number_of why
 
--- Calls and their refusals: where the first asks nothing, the second decides.
+-- Calls and their refusals: where the first answer refuses nothing, the second decides.
 abbrev pub then_ask : {A B : Type 0} → Result A Refusal → Result B Refusal → Result B Refusal
 then_ask (Ok given) next = next
 then_ask (Err why) next = Err why

@@ -33,7 +33,7 @@ pub enum Refusal {
 }
 
 impl Refusal {
-    /// The number of the refusal in the table, from 1 to 10.
+    /// The number of the refusal in the table, from 1 to 10: the discriminant, which `as` alone gives.
     pub fn number(self) -> u8
         ensures { result ≡ number_of self }
     {

@@ -2,9 +2,9 @@
 #![tactic(auto)]
 
 ghost use Rattle.std.specs.Prelude.{◌≡◌, ◌&&◌, cond};
-ghost use Rattle.registers.specs.Bits.{dv_of, base_of, rate_of, set_on, pie_on, aie_on, uie_on, sqwe_on, dse_on};
+ghost use Rattle.registers.specs.Bits.{dv_of, base_of, rate_of, set_on};
 ghost use Rattle.registers.specs.Lines.{irqf, sqw};
-ghost use Rattle.registers.specs.Locations.{register_a, register_c, register_d, register_bytes};
+ghost use Rattle.registers.specs.Locations.{register_a, register_c, register_bytes};
 ghost use Rattle.registers.specs.Access.{closed, access, write_access};
 ghost use Rattle.registers.specs.With.{with_flags};
 ghost use Rattle.registers.specs.Calls.{fresh, after_read, write_a, set_rises, write_b, write_plain, written, with_pins};
@@ -13,6 +13,23 @@ use calendar::{Alarm, Clock};
 use cases::is_on;
 use divider::{Base, Divider};
 use refusals::Refusal;
+
+// The map of locations. They are numbers and no enum, since a host passes any number as an address.
+
+/// The last of the clock's and the alarm's locations, which begin at 0.
+pub const LAST_OF_CLOCK: u32 = 9;
+/// Register A.
+pub const REGISTER_A: u32 = 10;
+/// Register B.
+pub const REGISTER_B: u32 = 11;
+/// Register C.
+pub const REGISTER_C: u32 = 12;
+/// Register D.
+pub const REGISTER_D: u32 = 13;
+/// The first location of the user RAM.
+pub const FIRST_OF_RAM: u32 = 14;
+/// The last location, of the user RAM too.
+pub const LAST_OF_RAM: u32 = 63;
 
 // Register B, bits 7 to 3 and 0; bits 2 and 1 are the mode.
 
@@ -48,16 +65,23 @@ pub const VRT: u8 = 0x80;
 /// moment.
 #[derive(Clone, Copy, Debug, PartialEq, Eq)]
 pub struct Regs {
+    /// The clock bytes: locations 0, 2, 4 and 6 to 9.
     pub clock: Clock,
+    /// The alarm bytes: locations 1, 3 and 5.
     pub alarm: Alarm,
     /// DV and rate bits of register A.
     pub a: u8,
     /// Register B.
     pub b: u8,
+    /// PF, the periodic flag, bit 6 of register C.
     pub pf: bool,
+    /// AF, the alarm flag, bit 5 of register C.
     pub af: bool,
+    /// UF, the update-ended flag, bit 4 of register C.
     pub uf: bool,
+    /// VRT, bit 7 of register D.
     pub vrt: bool,
+    /// The divider's count.
     pub divider: Divider,
     /// An update is pending, which UIP shows.
     pub pending: bool,
@@ -212,13 +236,13 @@ impl Regs {
     pub fn access(&self, address: u32) -> Result<(), Refusal>
         ensures { result ≡ access self.now address }
     {
-        if address > 63 {
+        if address > LAST_OF_RAM {
             return Err(Refusal::Address);
         }
         if self.resetlow {
             return Err(Refusal::Reset);
         }
-        if address <= 9 && self.is_closed() {
+        if address <= LAST_OF_CLOCK && self.is_closed() {
             return Err(Refusal::Window);
         }
         Ok(())
@@ -230,10 +254,10 @@ impl Regs {
         ensures { result ≡ write_access self.now address value }
     {
         self.access(address)?;
-        if address == 12 || address == 13 {
+        if address == REGISTER_C || address == REGISTER_D {
             return Err(Refusal::ReadOnly);
         }
-        if address == 10 && divider::is_test_pattern(dv_of(value)) {
+        if address == REGISTER_A && divider::is_test_pattern(dv_of(value)) {
             return Err(Refusal::TestPattern);
         }
         Ok(())
@@ -255,8 +279,8 @@ impl Regs {
     pub fn after_read(&mut self, address: u32)
         ensures { self.new ≡ after_read self.old address }
     {
-        self.keep_flags(address != 12);
-        self.vrt |= (address == 13) & !self.pslow;
+        self.keep_flags(address != REGISTER_C);
+        self.vrt |= (address == REGISTER_D) & !self.pslow;
     }
 
     /// A write to A: other DV bits drop a pending update and put the divider on its new base.
@@ -318,8 +342,8 @@ impl Regs {
         ensures { self.new ≡ written self.old address value }
     {
         match address {
-            10 => self.write_a(value),
-            11 => self.write_b(value),
+            REGISTER_A => self.write_a(value),
+            REGISTER_B => self.write_b(value),
             _ => self.write_plain(address, value),
         }
     }

@@ -1,7 +1,7 @@
 //! The event program: reads records from standard input, block by block, and writes their lines to standard output.
 #![tactic(auto)]
 
-ghost use Rattle.std.specs.Prelude.{◌≡◌, ◌+◌, ◌*◌, ◌/◌, ◌%◌, ◌≤◌, ◌<◌, length, take, drop, IfOk};
+ghost use Rattle.std.specs.Prelude.{◌≡◌, ◌%◌, ◌≤◌, ◌<◌, length, take, IfOk};
 ghost use Rattle.std.proofs.lemmas.List.Edits.{sets};
 ghost use Rattle.events.specs.Files.{state_after, printed_from};
 ghost use Rattle.rtc_events.specs.Blocks.{whole_of, part_of};

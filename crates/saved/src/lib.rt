@@ -13,7 +13,7 @@ use divider::Divider;
 use refusals::Refusal;
 use registers::Regs;
 
-/// The bytes of a saved chip.
+/// How many bytes a saved chip has.
 pub const RECORD_SIZE: usize = 72;
 
 // The bits of byte 67.
@@ -51,12 +51,12 @@ fn tail_of(regs: &Regs) -> [u8; 8]
 
 /// The record writer: fills a part of 72 bytes with the chip's record.
 #[tactic(auto, unfolding(crate::specs::Record::record_of, chip::specs::Chips::locations))]
-#[inline(always)]
+#[inline(always)] // Out of line, the bytes of a fresh chip would be put together at each call.
 pub fn store(chip: &Chip, part: &mut [u8])
     requires { length part.old ≡ record_size }
     ensures { part.new ≡ record_of chip.now }
 {
-    // Out of a copy of its own, the RAM goes over in four moves; out of the lent chip it would go byte by byte.
+    // Copied first: out of the lent chip the compiled code would move the RAM byte by byte.
     let chip = *chip;
     let (registers, rest) = part.split_at_mut(14);
     let (ram, tail) = rest.split_at_mut(50);
@@ -69,7 +69,7 @@ pub fn store(chip: &Chip, part: &mut [u8])
 
 /// The divider whose count stands in bytes 64 to 66, low byte first.
 #[tactic(auto, unfolding(crate::specs::Record::divider_in))]
-fn divider_in(bytes: &[u8; 72]) -> Divider
+fn divider_in(bytes: &[u8; RECORD_SIZE]) -> Divider
     ensures { result ≡ divider_in bytes.now }
 {
     Divider::from(u32::from_le_bytes([bytes[64], bytes[65], bytes[66], 0]))
@@ -77,7 +77,7 @@ fn divider_in(bytes: &[u8; 72]) -> Divider
 
 /// The registers in a record. UIP and IRQF are not taken from it, as a chip has them by their rules.
 #[tactic(auto, unfolding(crate::specs::Record::regs_in))]
-fn regs_in(bytes: &[u8; 72]) -> Regs
+fn regs_in(bytes: &[u8; RECORD_SIZE]) -> Regs
     ensures { result ≡ regs_in bytes.now }
 {
     let c = bytes[12];
@@ -113,7 +113,7 @@ fn regs_in(bytes: &[u8; 72]) -> Regs
 
 /// The chip in a record.
 #[tactic(auto, unfolding(crate::specs::Record::chip_of))]
-fn chip_of(bytes: &[u8; 72]) -> Chip
+fn chip_of(bytes: &[u8; RECORD_SIZE]) -> Chip
     ensures { result ≡ chip_of bytes.now }
 {
     let mut ram = [0; 50];
@@ -124,24 +124,24 @@ fn chip_of(bytes: &[u8; 72]) -> Chip
     }
 }
 
-// ---- the record rules, place by place
+// ---- the record rules, place by place; `&` and `|` make no branch, and a load makes all of these tests
 
-/// Location 0.
-fn seconds_keep(bytes: &[u8; 72]) -> bool
+/// Whether bit 7 of location 0 is 0.
+fn seconds_keep(bytes: &[u8; RECORD_SIZE]) -> bool
     ensures { result ≡ seconds_bit_7_rule bytes.now }
 {
     bytes[0] < 128
 }
 
-/// Location 10, its DV bits.
-fn dv_keeps(bytes: &[u8; 72]) -> bool
+/// Whether the DV bits of location 10 are no test pattern.
+fn dv_keeps(bytes: &[u8; RECORD_SIZE]) -> bool
     ensures { result ≡ no_test_pattern_rule bytes.now }
 {
     !divider::is_test_pattern(registers::dv_of(bytes[10]))
 }
 
-/// Location 12.
-fn c_keeps(bytes: &[u8; 72]) -> bool
+/// Whether bits 0 to 3 of location 12, register C, are 0, and bit 7 is IRQF by its rule.
+fn c_keeps(bytes: &[u8; RECORD_SIZE]) -> bool
     ensures { result ≡ keeps_c bytes.now }
 {
     let c = bytes[12];
@@ -149,8 +149,8 @@ fn c_keeps(bytes: &[u8; 72]) -> bool
     (c % 16 == 0) & ((128 <= c) == irqf)
 }
 
-/// Location 13.
-fn d_keeps(bytes: &[u8; 72]) -> bool
+/// Whether bits 0 to 6 of location 13, register D, are 0, and with PS low the whole of it.
+fn d_keeps(bytes: &[u8; RECORD_SIZE]) -> bool
     ensures { result ≡ keeps_d bytes.now }
 {
     let d = bytes[13];
@@ -158,23 +158,23 @@ fn d_keeps(bytes: &[u8; 72]) -> bool
     (d % 128 == 0) & (!ps_low | (d == 0))
 }
 
-/// Locations 11 and 12 with RESET low.
-fn reset_keeps(bytes: &[u8; 72]) -> bool
+/// Whether with RESET low the four enables in location 11, and the whole of location 12, are 0.
+fn reset_keeps(bytes: &[u8; RECORD_SIZE]) -> bool
     ensures { result ≡ keeps_reset bytes.now }
 {
     let reset_low = is_on(bytes[67], RESET_LOW);
     (!reset_low | (bytes[11] / 8 % 16 == 0)) & (!reset_low | (bytes[12] == 0))
 }
 
-/// The count.
-fn count_keeps(bytes: &[u8; 72]) -> bool
+/// Whether the count is one that the base in location 10 can have.
+fn count_keeps(bytes: &[u8; RECORD_SIZE]) -> bool
     ensures { result ≡ count_by_base_rule bytes.now }
 {
     divider_in(bytes).keeps_count(registers::base_of(bytes[10]))
 }
 
-/// Location 10 with its pending bit, and what a pending update needs.
-fn pending_keeps(bytes: &[u8; 72]) -> bool
+/// Whether bit 7 of location 10 is the pending bit, and a pending update has SET 0, a base that runs, and a count below E.
+fn pending_keeps(bytes: &[u8; RECORD_SIZE]) -> bool
     ensures { result ≡ keeps_pending bytes.now }
 {
     let base = registers::base_of(bytes[10]);
@@ -186,8 +186,8 @@ fn pending_keeps(bytes: &[u8; 72]) -> bool
         & ((!pending | !set) & ((!pending | runs) & (!pending | before)))
 }
 
-/// Byte 67's upper bits, and the spare bytes.
-fn spare_keeps(bytes: &[u8; 72]) -> bool
+/// Whether the upper bits of byte 67 and the four spare bytes are 0.
+fn spare_keeps(bytes: &[u8; RECORD_SIZE]) -> bool
     ensures { result ≡ keeps_spare bytes.now }
 {
     bytes[67] < 16 && (bytes[68] == 0 && (bytes[69] == 0 && (bytes[70] == 0 && bytes[71] == 0)))
@@ -195,7 +195,7 @@ fn spare_keeps(bytes: &[u8; 72]) -> bool
 
 /// All of the rules, in the order of their places. Calls and no table of functions, since each rule has its own promise.
 #[tactic(auto, unfolding(crate::specs::Rules::keeps_rules))]
-fn keeps_rules(bytes: &[u8; 72]) -> bool
+fn keeps_rules(bytes: &[u8; RECORD_SIZE]) -> bool
     ensures { result ≡ keeps_rules bytes.now }
 {
     seconds_keep(bytes)
@@ -212,11 +212,11 @@ fn keeps_rules(bytes: &[u8; 72]) -> bool
 
 /// The chip that was saved as these bytes. Refused with `Length` where they are not 72, then with `Rules` where they break a record rule.
 #[tactic(auto, unfolding(crate::specs::Calls::load))]
-#[inline(always)]
+#[inline(always)] // Out of line, each call would copy the chip once more.
 pub fn load(input: &[u8]) -> Result<Chip, Refusal>
     ensures { result ≡ load input.now }
 {
-    let bytes = input.as_array::<72>().ok_or(Refusal::Length)?;
+    let bytes = input.as_array::<RECORD_SIZE>().ok_or(Refusal::Length)?;
     if !keeps_rules(bytes) {
         return Err(Refusal::Rules);
     }

@@ -26,6 +26,8 @@ fn update(regs: &mut Regs)
     regs.pending = false;
 }
 
+// The three tests of a tick. They are functions of their own, since inside it a fact is lost where the arms of `&&` join.
+
 /// Whether the tap that the rate selects has just risen.
 fn tap_rises(regs: &Regs, base: Base) -> bool
     ensures { result ≡ rose (Some base) (rate_of regs.now.a) regs.now.divider }
@@ -78,12 +80,9 @@ pub fn ticks(regs: &mut Regs, count: u32)
     ensures { regs.new ≡ ticks count regs.old }
 {
     // The base is asked for once: no tick changes it.
-    match regs.base() {
-        None => {}
-        Some(base) => {
-            for _ in 0..count {
-                tick_on(regs, base);
-            }
+    if let Some(base) = regs.base() {
+        for _ in 0..count {
+            tick_on(regs, base);
         }
     }
 }

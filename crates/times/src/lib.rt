@@ -12,6 +12,9 @@ use calendar::Clock;
 use fields::Mode;
 use refusals::Refusal;
 
+/// The seconds of the hundred years 00 to 99, 25 of them leap years.
+const CENTURY: u64 = 3_155_760_000;
+
 /// A weekday, and the seconds that have passed in the century. Any numbers may stand in it: `encode` refuses those that have no bytes.
 #[derive(Clone, Copy, Debug, PartialEq, Eq)]
 pub struct Time {
@@ -75,7 +78,7 @@ fn seconds_of(day: u32, hour: u8, minute: u8, second: u8) -> u64
     ((u64::from(day) * 24 + u64::from(hour)) * 60 + u64::from(minute)) * 60 + u64::from(second)
 }
 
-/// The year that a day falls in.
+/// The year that a day falls in, of which four have 1,461 days, the leap year first. The cast keeps the number, as the check proves.
 #[tactic(auto, unfolding(crate::specs::Days::year_of))]
 fn year_of(day: u32) -> u8
     requires { day < 36525 }
@@ -84,7 +87,7 @@ fn year_of(day: u32) -> u8
     (day / 1461 * 4 + (day % 1461).saturating_sub(1) / 365) as u8
 }
 
-/// The month and the date of a day of a year, the first being day 0.
+/// The month and the date of a day of a year, the first being day 0. Here too each cast keeps its number.
 #[tactic(auto, using(crate::proofs::Laws::Code::reached_first, crate::proofs::Laws::Code::reached_next))]
 fn place_of(leap: bool, day: u32) -> (u8, u8)
     requires { day < before (last_days leap) 12 }
@@ -107,7 +110,7 @@ impl Time {
     pub fn has_bytes(self) -> bool
         ensures { result ≡ is_time self }
     {
-        (1..=7).contains(&self.weekday) && self.seconds < 3_155_760_000
+        (1..=7).contains(&self.weekday) && self.seconds < CENTURY
     }
 
     /// The time that a valid clock tells.
@@ -163,10 +166,10 @@ impl Time {
 pub fn decode(bytes: &[u8], mode: Mode) -> Result<Time, Refusal>
     ensures { result ≡ decoded mode bytes.now }
 {
-    let &[seconds, minutes, hours, weekday, date, month, year] = bytes else {
+    let Ok(bytes) = <[u8; 7]>::try_from(bytes) else {
         return Err(Refusal::Time);
     };
-    let clock = Clock::from([seconds, minutes, hours, weekday, date, month, year]);
+    let clock = Clock::from(bytes);
     if is_valid(mode, clock) {
         Ok(Time::of_clock(mode, clock))
     } else {

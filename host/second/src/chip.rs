@@ -1,4 +1,4 @@
-//! The chip: its locations, divider, flags and pins (document 01, "Locations" and "Divider and ticks").
+//! The chip: its locations, divider, flags and pins (the specification, "Locations" and "Divider and ticks").
 
 use crate::calendar::{self, Clock, Mode};
 use crate::registers::*;
@@ -37,7 +37,7 @@ impl TimeBase {
         }
     }
 
-    /// The count at which a pending update ends, called E in document 01.
+    /// The count at which a pending update ends, called E in the specification.
     pub const fn update_end(self) -> u32 {
         match self {
             TimeBase::Megahertz4 | TimeBase::Megahertz1 => 2_064,
@@ -152,7 +152,7 @@ impl Chip {
         Ok(())
     }
 
-    /// Sets both pins. A low pin acts by its level, so the clearing is done at every call (document 01, "Locations").
+    /// Sets both pins. A low pin acts by its level, so the clearing is done at every call (the specification, "Locations").
     pub fn pins(&mut self, reset_high: bool, ps_high: bool) {
         self.reset_low = !reset_high;
         self.ps_low = !ps_high;
@@ -176,7 +176,7 @@ impl Chip {
         Ok(())
     }
 
-    /// Lets one period of the time base pass: count, PF, pending, update (document 01, "Divider and ticks").
+    /// Lets one period of the time base pass: count, PF, pending, update (the specification, "Divider and ticks").
     #[inline]
     pub fn tick(&mut self) {
         let register_a = self.locations[REGISTER_A];
@@ -211,7 +211,7 @@ impl Chip {
         }
     }
 
-    /// The refusals that reads and writes share, in the order of document 01, "Calls and their refusals": 2, 3, then 4.
+    /// The refusals that reads and writes share, in the order of the specification, "Calls and their refusals": 2, 3, then 4.
     /// Refusals 5 and 6 concern other addresses than 4, so that a write can look for them afterwards.
     fn accessible(&self, address: u32) -> Result<usize, Refusal> {
         let address = usize::try_from(address).unwrap_or(usize::MAX);
@@ -233,7 +233,7 @@ impl Chip {
     }
 
     /// A change of the DV bits restarts the chain's front stages and gives up an update that counted on the old base
-    /// (document 01, "Divider and ticks"); a change of the RS bits alone does neither.
+    /// (the specification, "Divider and ticks"); a change of the RS bits alone does neither.
     fn write_register_a(&mut self, value: u8) -> Result<(), Refusal> {
         let divider = Divider::from_register_a(value);
         if divider == Divider::Test {
@@ -250,7 +250,7 @@ impl Chip {
         Ok(())
     }
 
-    /// Only SET's way from 0 to 1 has an effect of its own; while it stays 1, UIE can be written (document 01,
+    /// Only SET's way from 0 to 1 has an effect of its own; while it stays 1, UIE can be written (the specification,
     /// "Locations").
     fn write_register_b(&mut self, value: u8) {
         let set_rises = value & SET != 0 && self.locations[REGISTER_B] & SET == 0;

@@ -1,4 +1,4 @@
-//! The event program: 4-byte records in, one line of decimals out for each (document 01, "Saved chip and event file").
+//! The event program: 4-byte records in, one line of decimals out for each (the specification, "Saved chip and event file").
 
 use crate::chip::Chip;
 use crate::host::REFUSED_BYTE;

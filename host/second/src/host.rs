@@ -2,7 +2,7 @@
 //!
 //! The names are those of the C interface without their prefix. A word holds the byte in bits 0 to 7 and the answer in
 //! bits 8 to 15; `decode`'s wider word holds the seconds in bits 0 to 31, the weekday in 32 to 39 and the answer in 40
-//! to 47. Every call on a chip first loads it, so that a broken chip is refused with 8 ahead of all else (document 01,
+//! to 47. Every call on a chip first loads it, so that a broken chip is refused with 8 ahead of all else (the specification,
 //! "Calls and their refusals").
 
 use crate::calendar::{self, Clock, Mode, Time};

@@ -19,7 +19,7 @@ pub mod host;
 pub mod record;
 pub mod registers;
 
-/// Why a call was refused. The numbers are those of the table in document 01, "Calls and their refusals".
+/// Why a call was refused. The numbers are those of the table in the specification, "Calls and their refusals".
 #[derive(Clone, Copy, Debug, PartialEq, Eq)]
 #[repr(u8)]
 pub enum Refusal {
@@ -46,7 +46,7 @@ pub enum Refusal {
 }
 
 impl Refusal {
-    /// The number of this refusal in document 01's table.
+    /// The number of this refusal in the specification's table.
     pub const fn number(self) -> u8 {
         self as u8
     }

@@ -1,4 +1,4 @@
-//! The saved chip: 72 bytes and the rules they keep (document 01, "Saved chip and event file").
+//! The saved chip: 72 bytes and the rules they keep (the specification, "Saved chip and event file").
 
 use crate::chip::{Chip, Divider, COUNT_LIMIT, HELD_COUNT};
 use crate::registers::*;

@@ -1,4 +1,4 @@
-//! Names for the locations and for the bits of registers A to D (document 01, "Locations"; data sheet, figure 15).
+//! Names for the locations and for the bits of registers A to D (the specification, "Locations"; data sheet, figure 15).
 
 /// How many locations the chip has.
 pub const LOCATIONS: usize = 64;

@@ -5,7 +5,7 @@ use mathlib.Core.Logic.{◌⊎◌, inl, inr}
 use Prim.Native.Nat.{ℕ, zero, suc, ◌+◌}
 use native.Mathlib.Numerals.{add-one}
 use native.Mathlib.Omega.{arith}
-use Rattle.cases.proofs.Tests.{either}
+use Rattle.std.proofs.lemmas.Bool.{cases_Bool}
 use Rattle.fields.specs.declared.Mode.{Mode}
 use Rattle.fields.specs.Modes.{mode_of}
 use Rattle.calendar.specs.declared.Clock.{Clock}
@@ -106,7 +106,7 @@ module _ (base : Option Base) (m : Mode) (first : Clock) (c : Course) (r : Regs)
 
   pub tick_follows : Follows base m first (course.tick base c) (tick r)
   unfolding tick finished
-  tick_follows = rw (f.on_base, on) (go (either (moved_on.pending && at_end (base_of moved_on.a) moved_on.divider)))
+  tick_follows = rw (f.on_base, on) (go (cases_Bool (moved_on.pending && at_end (base_of moved_on.a) moved_on.divider)))
     where
       go : (moved_on.pending && at_end (base_of moved_on.a) moved_on.divider ≡ true) ⊎ (moved_on.pending && at_end (base_of moved_on.a) moved_on.divider ≡ false)
           → Follows base m first (course.tick base c) (cond (moved_on.pending && at_end (base_of moved_on.a) moved_on.divider) (updated moved_on) moved_on)

@@ -7,7 +7,8 @@ use Prim.Native.Nat.{ℕ, ◌+◌, ◌*◌, ◌/◌, ◌%◌, ◌≤◌, ◌<◌
 use native.Mathlib.Omega.{arith}
 use lib.Dec.{eqb, leb}
 use borrow.Author.Tests.{eqb-true, lt-ltb, le-ltb}
-use Rattle.cases.proofs.Tests.{either, and_left, and_right, leb_case}
+use Rattle.std.proofs.lemmas.Bool.{and_parts, cases_Bool}
+use Rattle.cases.proofs.Tests.{leb_case}
 use Rattle.std.specs.Prelude.{Option, Result, Ok, Err}
 use Rattle.refusals.specs.declared.Refusal.{Refusal}
 use Rattle.fields.specs.declared.Mode.{Mode}
@@ -90,7 +91,7 @@ module _ (base : Option Base) (m : Mode) (first : Clock) (c : Course) where
       rw e (record { on_base = f.on_base; mode = f.mode; set_off = f.set_off; dse_off = f.dse_off; divider = f.divider; pending = f.pending; clock = f.clock })
 
   which_alarm : (address : ℕ) → alarm_or_ram address ≡ true → leb 14 address ≡ false → (address ≡ 1) ⊎ ((address ≡ 3) ⊎ (address ≡ 5))
-  which_alarm address e l = go (either (eqb address 1)) (either (eqb address 3)) (either (eqb address 5))
+  which_alarm address e l = go (cases_Bool (eqb address 1)) (cases_Bool (eqb address 3)) (cases_Bool (eqb address 5))
     where
       go : (eqb address 1 ≡ true) ⊎ (eqb address 1 ≡ false) → (eqb address 3 ≡ true) ⊎ (eqb address 3 ≡ false) → (eqb address 5 ≡ true) ⊎ (eqb address 5 ≡ false)
           → (address ≡ 1) ⊎ ((address ≡ 3) ⊎ (address ≡ 5))
@@ -101,7 +102,7 @@ module _ (base : Option Base) (m : Mode) (first : Clock) (c : Course) where
 
   written_follows : (chip : Chip) (address value : ℕ) → alarm_or_ram address ≡ true → Follows base m first c chip.regs → Follows base m first c (written chip address value).regs
   unfolding written
-  written_follows chip address value e f = go (either (leb 14 address))
+  written_follows chip address value e f = go (cases_Bool (leb 14 address))
     where
       go : (leb 14 address ≡ true) ⊎ (leb 14 address ≡ false) → Follows base m first c (written chip address value).regs
       go (inl l) = rw l f
@@ -145,4 +146,4 @@ module _ (base : Option Base) (m : Mode) (first : Clock) (c : Course) (on : runn
   events_follow [] chip done h f = let e : 0 + done ≡ done = omega arith in rw e f
   events_follow (e ∷ es) chip done h f =
       let q : ticks_of e + accepted_ticks es + done ≡ accepted_ticks es + (ticks_of e + done) = omega arith in
-      rw q (events_follow es (after e chip) (ticks_of e + done) (and_right (may_happen e) _ h) (event_follows e chip done (and_left (may_happen e) _ h) f))
+      rw q (events_follow es (after e chip) (ticks_of e + done) ((and_parts (may_happen e) _ h).1) (event_follows e chip done ((and_parts (may_happen e) _ h).0) f))

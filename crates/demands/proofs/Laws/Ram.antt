@@ -9,7 +9,8 @@ use lib.Dec.{eqb, leb}
 use lib.ListN.{get_or, set}
 use lib.Seq.{get_or-set_same, get_or-set_other}
 use borrow.Author.Tests.{ne_eqb}
-use Rattle.cases.proofs.Tests.{eqb_case, leb_case, and_false}
+use Rattle.std.proofs.Math.Bool.{and-false}
+use Rattle.cases.proofs.Tests.{eqb_case, leb_case}
 use Rattle.std.specs.Prelude.{Result, Ok, Err}
 use Rattle.refusals.specs.declared.Refusal.{Refusal}
 use Rattle.refusals.specs.Numbers.{number_of, answer_number}
@@ -60,7 +61,7 @@ module _ (address : ℕ) (low : 14 ≤ address) (high : address < 64) where
 
       go : (v : Result (Unit {0}) Refusal) → location (write_by v chip a value).chip address ≡ cond (eqb a address && eqb (answer_number (write_by v chip a value).answer) 0) value (location chip address)
       go (Ok _) = rw (accepted (eqb a address)) (stored_byte chip a value k)
-      go (Err why) = rw (ne_eqb (number_of why) 0 (refusal_has_number why), and_false (eqb a address))
+      go (Err why) = rw (ne_eqb (number_of why) 0 (refusal_has_number why), and-false (eqb a address))
 
   event_byte : (e : Event) (chip : Chip) → Rules chip → location (after e chip) address ≡ kept_byte address (location chip address) chip e
   event_byte (runs n) chip k = same_ram chip _ (run_leaves_ram chip n)

@@ -1,6 +1,6 @@
 -- The record rules on the count, as named facts, and what keeps them. Assumes nothing.
-use mathlib.Core.Path.{◌≡◌, refl, sym, ◌∙◌}
-use mathlib.Core.Bool.{Bool, true, false, cond, ◌&&◌, true≢false}
+use mathlib.Core.Path.{◌≡◌, refl}
+use mathlib.Core.Bool.{Bool, true, false, cond, ◌&&◌}
 use Prim.Native.Nat.{ℕ, ◌+◌, ◌-◌, ◌*◌, ◌/◌, ◌%◌, ◌<◌}
 use native.Mathlib.Nat.{dvd-mul_left, mod-mod_of_dvd, add-mod_right, mul-mod_left, div-add-mod'}
 use native.Mathlib.Omega.{arith}

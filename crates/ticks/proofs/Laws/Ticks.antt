@@ -1,8 +1,8 @@
 -- Many ticks: they leave register A, and do nothing where the divider is held.
 use mathlib.Core.Path.{◌≡◌, refl, sym, ◌∙◌}
-use mathlib.Core.Bool.{Bool, true, false, cond, ◌&&◌}
+use mathlib.Core.Bool.{Bool, true, false, cond}
 use Prim.Native.Nat.{ℕ, zero, suc}
-use Rattle.std.specs.Prelude.{Option, Some, None}
+use Rattle.std.specs.Prelude.{Some, None}
 use Rattle.divider.specs.declared.Base.{Base}
 use Rattle.divider.specs.Divider.{running}
 use Rattle.registers.specs.declared.Regs.{Regs}
