@@ -78,3 +78,26 @@ pub fn answer_number<T>(answer: &Result<T, Refusal>) -> u8
         Err(why) => why.number(),
     }
 }
+
+#[cfg(test)]
+mod tests {
+    use super::*;
+    use std::test::Fail;
+
+    #[test]
+    fn says_why_in_words(rt: HostRuntime) -> Result<(), Fail> {
+        let text = format!(in rt.alloc(); "{}", Refusal::Kind)?;
+        assert_eq!(rt; text.as_str(), "the event is of no known kind");
+        Ok(())
+    }
+
+    #[test]
+    fn numbers_an_answer_of_any_type(rt: HostRuntime) -> Result<(), Fail> {
+        let read: Result<u8, Refusal> = Ok(165);
+        let run: Result<(), Refusal> = Err(Refusal::Ticks);
+        assert_eq!(rt; answer_number(&read), 0);
+        assert_eq!(rt; answer_number(&run), 7);
+        assert_eq!(rt; u8::from(Refusal::Kind), 10);
+        Ok(())
+    }
+}
