@@ -159,7 +159,7 @@ impl Clock {
         }
     }
 
-    /// Whether the clock is at 1:59:59 AM on a Sunday.
+    /// Whether the clock is at 1:59:59 AM on a Sunday. Four fields are compared and no two clocks, since the date is free.
     fn is_at_change(self, mode: Mode) -> bool
         ensures { result ≡ at_change mode self }
     {

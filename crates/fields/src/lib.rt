@@ -151,7 +151,7 @@ impl DataMode {
 }
 
 impl Mode {
-    /// The mode that a byte of register B sets: bit 2 is DM, bit 1 is 24/12.
+    /// The mode that a byte of register B sets: bit 2 is DM, bit 1 is 24/12. No `From<u8>`, as its name says whose byte it is.
     pub fn of_register_b(b: u8) -> Self
         ensures { result ≡ mode_of b }
     {
@@ -194,7 +194,7 @@ impl Mode {
         }
     }
 
-    /// The hours byte of an hour from 0 to 23.
+    /// The hours byte of an hour from 0 to 23, a plain number as in `DataMode::byte`.
     #[tactic(auto, using(crate::proofs::Laws::Bytes::hour_small))]
     pub fn hour_byte(self, hour: u8) -> u8
         requires { hour < 24 }

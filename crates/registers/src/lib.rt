@@ -196,7 +196,7 @@ impl Regs {
         placed(self.irqf(), IRQF) + flags
     }
 
-    /// The bytes at locations 0 to 13: clock and alarm in turns, then A to D.
+    /// The bytes at locations 0 to 13: clock and alarm in turns, then A to D. Like A and C above no `From`: the name says which bytes they are.
     #[tactic(auto, unfolding(crate::specs::Locations::register_bytes))]
     pub fn register_bytes(&self) -> [u8; 14]
         ensures { result ≡ register_bytes self.now }
@@ -348,7 +348,7 @@ impl Regs {
         }
     }
 
-    /// The pins at new levels; true is high. RESET low takes bits 6 to 3 out of B and clears every flag; PS low clears VRT.
+    /// The pins at new levels; true is high, and each has the data sheet's name. RESET low takes bits 6 to 3 out of B and clears every flag; PS low clears VRT.
     #[tactic(auto, unfolding(crate::specs::Calls::with_pins))]
     pub fn set_pins(&mut self, reset: bool, ps: bool)
         ensures { self.new ≡ with_pins self.old reset ps }

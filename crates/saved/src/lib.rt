@@ -190,7 +190,7 @@ fn pending_keeps(bytes: &[u8; RECORD_SIZE]) -> bool
 fn spare_keeps(bytes: &[u8; RECORD_SIZE]) -> bool
     ensures { result ≡ keeps_spare bytes.now }
 {
-    bytes[67] < 16 && (bytes[68] == 0 && (bytes[69] == 0 && (bytes[70] == 0 && bytes[71] == 0)))
+    bytes[67] < 16 && bytes[68..] == [0; 4]
 }
 
 /// All of the rules, in the order of their places. Calls and no table of functions, since each rule has its own promise.
@@ -223,7 +223,7 @@ pub fn load(input: &[u8]) -> Result<Chip, Refusal>
     Ok(chip_of(bytes))
 }
 
-/// Writes the chip's record at an offset inside a page, and no other byte of it. Refused with `Length` where the page ends before the record would; it
+/// Writes the chip's record at an offset inside a page, and no other byte of it. Page and offset stay two: the middle part is lent from here. Refused with `Length` where the page ends before the record would; it
 /// then stays as it was.
 #[tactic(auto, using(crate::proofs::Laws::Parts::part_comes_back), unfolding(crate::specs::Calls::save))]
 pub fn save(chip: &Chip, page: &mut [u8], offset: usize) -> Result<(), Refusal>

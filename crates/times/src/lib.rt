@@ -161,7 +161,7 @@ impl Time {
     }
 }
 
-/// Turns seven clock bytes, lowest location first, into a time. Refused (`Refusal::Time`) where they are not seven, or no valid time.
+/// Turns seven clock bytes, lowest location first, into a time. The bytes say nothing of their mode, so it stands beside them. Refused (`Refusal::Time`) where they are not seven, or no valid time.
 #[tactic(auto, unfolding(crate::specs::Calls::decoded))]
 pub fn decode(bytes: &[u8], mode: Mode) -> Result<Time, Refusal>
     ensures { result ≡ decoded mode bytes.now }
