@@ -1,15 +1,13 @@
 -- What the calls change, and what they leave alone.
-use mathlib.Core.Path.{◌≡◌, refl, sym, ap, ◌∙◌}
+use mathlib.Core.Path.{◌≡◌, refl, sym, ap}
 use mathlib.Core.Bool.{Bool, true, false, ◌||◌, not}
 use mathlib.Core.Logic.{◌⊎◌, inl, inr}
-use mathlib.Core.List.{List, [], ◌∷◌, ◌++◌}
-use Prim.Native.Nat.{ℕ, ◌+◌, ◌-◌, ◌≤◌, ◌<◌}
-use native.Mathlib.Nat.{zero-add, suc-add}
-use native.Mathlib.Omega.{arith}
+use Prim.Native.Nat.{ℕ, ◌≤◌, ◌<◌}
 use lib.Dec.{ltb}
 use lib.ListN.{length, set}
 use lib.Seq.{get_or-set_same, get_or-set_other}
 use borrow.Author.Tests.{le-leb, ne_eqb}
+use Rattle.std.proofs.lemmas.List.{set-append_right}
 use Rattle.std.specs.Prelude.{Result, Ok, Err}
 use Rattle.refusals.specs.declared.Refusal.{Refusal}
 use Rattle.std.proofs.Math.Bool.{and-false, and-true, or-false}
@@ -74,10 +72,6 @@ pub data AlarmOrRam (address : ℕ) : Type 0 where
   alarm_hours : address ≡ 5 → AlarmOrRam address
   ram : 14 ≤ address → AlarmOrRam address
 
-set_behind : (xs ys : List ℕ) (i v : ℕ) → set (xs ++ ys) (length xs + i) v ≡ xs ++ set ys i v
-set_behind [] ys i v = ap (λ (k : ℕ). set ys k v) (zero-add i)
-set_behind (x ∷ xs) ys i v = ap (λ (k : ℕ). set (x ∷ xs ++ ys) k v) (suc-add (length xs) i) ∙ ap (λ (l : List ℕ). x ∷ l) (set_behind xs ys i v)
-
 alarm_written : (chip : Chip) (address value : ℕ) → (address ≡ 1) ⊎ ((address ≡ 3) ⊎ (address ≡ 5))
     → (locations (written chip address value) ≡ set (locations chip) address value) × SameBeside chip (written chip address value)
 unfolding locations written registers.written write_plain register_bytes irqf
@@ -89,8 +83,7 @@ ram_written : (chip : Chip) (address value : ℕ) → 14 ≤ address
     → (locations (written chip address value) ≡ set (locations chip) address value) × SameBeside chip (written chip address value)
 unfolding locations written
 ram_written chip address value h =
-    let e : length (register_bytes chip.regs) + (address - 14) ≡ address = omega (arith, fourteen_registers chip.regs) in
-    let q = sym (set_behind (register_bytes chip.regs) chip.ram (address - 14) value) ∙ ap (λ (k : ℕ). set (locations chip) k value) e in
+    let q = sym (set-append_right (register_bytes chip.regs) chip.ram 14 address value (fourteen_registers chip.regs) h) in
     rw (le-leb 14 address h) (q, record { divider = refl; pending = refl; resetlow = refl; pslow = refl; used = refl })
 
 -- an accepted write to an alarm or RAM location changes that byte alone

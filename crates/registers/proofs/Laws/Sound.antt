@@ -5,7 +5,8 @@ use mathlib.Core.Logic.{◌⊎◌, inl, inr}
 use Prim.Native.Nat.{ℕ, ◌+◌, ◌*◌, ◌/◌, ◌%◌, ◌<◌}
 use native.Mathlib.Omega.{arith}
 use lib.Dec.{eqb}
-use Rattle.std.proofs.lemmas.Bool.{cases_Bool, false≢true}
+use borrow.Author.Tests.{not-true}
+use Rattle.std.proofs.lemmas.Bool.{and_left, and_right, cases_Bool, false≢true}
 use Rattle.cases.proofs.Tests.{eqb_case}
 use Rattle.std.specs.Prelude.{None, Ok}
 use Rattle.divider.specs.Divider as divider
@@ -29,12 +30,6 @@ pub record Sound (r : Regs) : Type 0 where
   pub set : r.pending ≡ true → set_on r.b ≡ false
   pub runs : r.pending ≡ true → divider.running (base_of r.a) ≡ true
   pub before_the_end : r.pending ≡ true → divider.before_end (base_of r.a) r.divider ≡ true
-
--- ---- Bools
-
--- a conjunction with something false
-pub and_of_false : (x y : Bool) → x ≡ false → x && y ≡ false
-and_of_false x y p = rw p
 
 -- ---- fresh
 
@@ -72,9 +67,9 @@ read_keeps_sound r address s =
       count = s.count;
       vrt = λ e. low_vrt r.vrt r.pslow (eqb address 13) s.vrt e;
       enables = s.enables;
-      pf = λ e. and_of_false _ _ (s.pf e);
-      af = λ e. and_of_false _ _ (s.af e);
-      uf = λ e. and_of_false _ _ (s.uf e);
+      pf = λ e. and_left _ _ (s.pf e);
+      af = λ e. and_left _ _ (s.af e);
+      uf = λ e. and_left _ _ (s.uf e);
       set = s.set;
       runs = s.runs;
       before_the_end = s.before_the_end;
@@ -91,11 +86,6 @@ set_under_pins : (b : ℕ) (reset : Bool) → set_on (cond reset b (b / 128 * 12
 set_under_pins b true = refl
 set_under_pins b false = ap (λ (n : ℕ). eqb n 1) (set_stays b)
 
-and_not : (x y : Bool) → not y ≡ true → x && y ≡ false
-and_not true true e = sym e
-and_not true false e = refl
-and_not false y e = refl
-
 low_enables : (b : ℕ) (reset : Bool) → not reset ≡ true → cond reset b (b / 128 * 128 + b % 8) / 8 % 16 ≡ 0
 low_enables b true e = absurd (false≢true e)
 low_enables b false e = enables_out b
@@ -108,11 +98,11 @@ pins_keep_sound r reset ps s =
       a = s.a;
       pattern = s.pattern;
       count = s.count;
-      vrt = λ e. and_not r.vrt ps e;
+      vrt = λ e. and_right r.vrt ps (not-true ps e);
       enables = λ e. low_enables r.b reset e;
-      pf = λ e. and_not r.pf reset e;
-      af = λ e. and_not r.af reset e;
-      uf = λ e. and_not r.uf reset e;
+      pf = λ e. and_right r.pf reset (not-true reset e);
+      af = λ e. and_right r.af reset (not-true reset e);
+      uf = λ e. and_right r.uf reset (not-true reset e);
       set = λ e. set_under_pins r.b reset ∙ s.set e;
       runs = s.runs;
       before_the_end = s.before_the_end;
