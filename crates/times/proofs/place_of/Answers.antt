@@ -1,6 +1,9 @@
 use native.Mathlib.Omega.{arith}
-use Rattle.times.proofs.Laws.Code.{reached_month, reached_date, reached_last}
+use Rattle.times.proofs.Laws.Code.{reached_first, reached_month, reached_date, reached_last}
 use Rattle.times.proofs.place_of.Goals as goal
+
+pub loop-month-init : goal.loop-month-init
+loop-month-init c = reached_first c.args.leap c.args.day
 
 pub returns-then-left-last : goal.returns-then-left-last
 returns-then-left-last c =
