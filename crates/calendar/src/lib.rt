@@ -50,8 +50,8 @@ pub struct Advanced {
     pub used: bool,
 }
 
-/// What an update leaves: the clock, the mark of the repeated hour, and whether the alarm matches. Not an `Advanced` with a flag beside it: what is
-/// promised of an update is one record of three.
+/// What an update leaves: the clock, the mark of the repeated hour, and whether the alarm matches. Not an `Advanced` with a flag beside it: `update` of
+/// specs/Update is one record of three.
 #[derive(Clone, Copy, Debug, PartialEq, Eq)]
 pub struct Updated {
     /// The clock after the update.
@@ -69,7 +69,7 @@ const LAST_DAYS: [u8; 12] = [31, 28, 31, 30, 31, 30, 31, 31, 30, 31, 30, 31];
 fn is_leap(data: DataMode, year: u8) -> bool
     ensures { result ≡ is_leap «data» year }
 {
-    data.is_in_range(0, 99, year) && data.value(year) % 4 == 0
+    data.is_in_range(0, 99, year) & (data.value(year) % 4 == 0)
 }
 
 /// The last day of a month from 1 to 12, in a leap year where `leap` says so. The month is a number, as its bytes and its table have it: a type of its own would ask callers for one.
@@ -78,7 +78,7 @@ pub fn last_day(leap: bool, month: u8) -> u8
     requires { (1 ≤ month) × (month ≤ 12) }
     ensures { result ≡ last_day leap month }
 {
-    if leap && month == 2 {
+    if leap & (month == 2) {
         29
     } else {
         LAST_DAYS[usize::from(month) - 1]
@@ -190,7 +190,7 @@ impl Clock {
         }
     }
 
-    // Two functions for the two changes: as one it would be told the month, the dates and whether a mark counts, as no plainer call.
+    // As one function these two would be told the month, the dates and whether the mark counts, and no call would be plainer.
 
     /// Whether the spring change is due: on a Sunday from 24 to 30 April.
     #[tactic(auto, unfolding(crate::specs::Daylight::springs))]

@@ -1,4 +1,5 @@
 -- What a test tells, in each of its two ways: the fact, and the value of the Bool that a definition goes by.
+-- These stay: the library has the two ways of a test and its value, and not both at once.
 use mathlib.Core.Path.{◌≡◌}
 use mathlib.Core.Bool.{true, false}
 use mathlib.Core.Logic.{◌⊎◌, inl, inr}

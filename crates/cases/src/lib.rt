@@ -1,4 +1,4 @@
-//! The test of one bit of a byte. What every proof here uses, of tests and of values that a definition chooses by one, stands in proofs/.
+//! The test of one bit of a byte. What every proof here uses of tests stands in proofs/.
 #![tactic(auto)]
 
 ghost use Rattle.std.specs.Prelude.{◌≡◌, ◌<◌, ◌/◌, ◌%◌, eqb};

@@ -67,7 +67,7 @@ impl Chip {
         Ok(byte)
     }
 
-    /// Puts a byte at a location, with all that this brings about in the registers.
+    /// Puts a byte at a location, with all that this brings about in the registers. The cast is as in `location`.
     #[tactic(auto, unfolding(crate::specs::Chips::written))]
     fn put(&mut self, address: u32, value: u8)
         requires { address < 64 }
@@ -127,6 +127,7 @@ impl Chip {
         if count > MOST_TICKS {
             return Err(Refusal::Ticks);
         }
+        // Over the registers: `for _ in 0..count { self.tick() }` took up to 1.3 times as long.
         ticks::ticks(&mut self.regs, count);
         Ok(())
     }

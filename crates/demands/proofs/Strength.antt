@@ -1,5 +1,6 @@
 -- The strength of the contracts: two results that a call's contract allows for one input are equal. Each contract is one equation, or one
 -- for the answer and one for what is left, so each theorem is one line; what it says of a call is that they leave nothing open.
+-- `equal` and `each` stay: they are what all these theorems share.
 use mathlib.Core.Path.{◌≡◌, sym, ap, ◌∙◌}
 use mathlib.Core.Bool.{Bool}
 use mathlib.Core.List.{List}

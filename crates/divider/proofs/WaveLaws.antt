@@ -1,4 +1,5 @@
 -- What the proof of `wave` uses.
+-- Stays: `no`, of one use.
 use mathlib.Core.Path.{◌≡◌, refl}
 use native.Mathlib.Omega.{arith}
 use mathlib.Core.Bool.{Bool, true, false, ◌&&◌, not}

@@ -25,7 +25,7 @@ pub enum Base {
 }
 
 impl Base {
-    /// The base that the number in DV2 to DV0 selects, if the divider runs with it: 0, 1 or 2.
+    /// The base that the number in DV2 to DV0 selects, if the divider runs with it: 0, 1 or 2. An `Option`, since no base is no error.
     pub fn selected(dv: u8) -> Option<Self>
         ensures { result ≡ meaning.selected dv }
     {
@@ -71,7 +71,7 @@ impl Base {
     }
 }
 
-/// Whether the number in DV2 to DV0 is a test pattern: 3, 4 or 5, which no write stores.
+/// Whether the number in DV2 to DV0 is a test pattern: 3, 4 or 5, which no write stores. A number, as no `Base` stands for a pattern.
 pub fn is_test_pattern(dv: u8) -> bool
     ensures { result ≡ meaning.test_pattern dv }
 {
@@ -97,7 +97,7 @@ pub fn end_of(base: Option<Base>) -> u32
     base.unwrap_or(Base::Fastest).end()
 }
 
-/// The rate as which a rate acts. A step of 128 never moves bit 6: the chip lets the two fastest rates act as slower ones there.
+/// The rate, a number as in `tap_of`, as which a rate acts. A step of 128 never moves bit 6: the chip lets the two fastest rates act as slower ones there.
 #[tactic(auto, unfolding(crate::specs::Divider::acts_as))]
 fn acts_as(base: Option<Base>, rate: u8) -> u32
     ensures { result ≡ meaning.acts_as base rate }
@@ -131,6 +131,7 @@ pub struct Divider {
     pub count: u32,
 }
 
+// The base is told at each call and not kept here: it stands in register A.
 impl Divider {
     /// The divider of a fresh chip, which is held at half the span.
     #[tactic(auto, unfolding(crate::specs::Divider::fresh))]
@@ -163,7 +164,7 @@ impl Divider {
         };
     }
 
-    /// Whether the tap that a rate selects has just risen, which the count's trailing zero bits tell. Rate 0 selects none.
+    /// Whether the tap that a rate, a number as in `tap_of`, selects has just risen, which the count's trailing zero bits tell. Rate 0 selects none.
     #[tactic(auto, unfolding(crate::specs::Divider::rose))]
     pub fn has_risen(self, base: Option<Base>, rate: u8) -> bool
         ensures { result ≡ meaning.rose base rate self }
@@ -171,7 +172,7 @@ impl Divider {
         rate != 0 && self.count.trailing_zeros() == tap_of(base, rate)
     }
 
-    /// The level of the tap that a rate selects: the square wave before SQWE has its say. Rate 0 selects none.
+    /// The level of the tap that a rate, a number as in `tap_of`, selects: the square wave before SQWE has its say. Rate 0 selects none.
     #[tactic(auto, using(crate::proofs::WaveLaws::above), unfolding(crate::specs::Divider::wave))]
     pub fn wave(self, base: Option<Base>, rate: u8) -> bool
         ensures { result ≡ meaning.wave base rate self }

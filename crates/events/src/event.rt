@@ -71,6 +71,7 @@ impl Event {
     {
         match self {
             Event::Read { address } => {
+                // A read's answer is taken apart by `let .. else`, as the specification asks.
                 let answer = chip.read(u32::from(address));
                 let Ok(byte) = answer else {
                     return Shown {

@@ -67,7 +67,7 @@ impl State {
         }
     }
 
-    /// One record, with its line at the start of the buffer; answers how many bytes that has.
+    /// One record, with its line at the start of the buffer; answers how many bytes that has, as the room is the caller's.
     #[tactic(auto, using(crate::proofs::Laws::Text::line_is_short), unfolding(crate::specs::Files::after, crate::specs::Files::line))]
     fn step(&mut self, bytes: [u8; 4], out: &mut [u8]) -> usize
         requires { line_room ≤ length out.old }

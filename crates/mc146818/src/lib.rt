@@ -88,7 +88,7 @@ pub fn load(bytes: &mut [u8; RECORD_SIZE], input: &[u8]) -> Result<(), Refusal>
     Ok(())
 }
 
-/// Saves the chip at an offset inside a page. Refused with `Rules`, or as `saved::save` is; the page then stays as it was.
+/// Saves the chip at an offset inside a page; page and offset are as C passes them. Refused with `Rules`, or as `saved::save` is; the page then stays as it was.
 pub fn save(bytes: &[u8; RECORD_SIZE], page: &mut [u8], offset: usize) -> Result<(), Refusal>
     ensures answer { result ≡ save_answer bytes.now page.old offset }
     ensures page { page.new ≡ save_page bytes.now page.old offset }

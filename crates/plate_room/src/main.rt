@@ -152,6 +152,7 @@ fn walk(mode: Mode, start: Clock, turns: u32) -> Walked
     let mut moves = 0;
     for _ in 0..turns {
         let next = clock.ordinary(mode, false).clock;
+        // The date alone is counted, and no two clocks compared.
         moves += u32::from(clock.date != next.date);
         clock = next;
     }
@@ -211,10 +212,7 @@ fn decodes(rt: &impl Print) -> io::Result<()> {
         let answer = times::decode(&bytes, BCD_24);
         let number = refusals::answer_number(&answer);
         let before = ClockText(Clock::from(bytes));
-        let time = TimeText(answer.unwrap_or(Time {
-            weekday: 0,
-            seconds: 0,
-        }));
+        let time = TimeText(answer.unwrap_or_default());
         println!(rt; "{name:<22}  {mode}  {before} -> answer {number}, {time}")?;
     }
     Ok(())

@@ -39,7 +39,7 @@ impl fmt::Display for ClockText {
     }
 }
 
-/// An alarm as its three bytes in hex, in the order of the locations, apart by spaces.
+/// An alarm as its three bytes in hex, in the order of the locations, apart by spaces. A type beside `ClockText`, as specs/Text says what each writes.
 #[derive(Clone, Copy)]
 pub struct AlarmText(pub Alarm);
 

@@ -1,4 +1,5 @@
-//! A chip on the bench: the calls that the firmware makes on it, and what it answers, shown on standard output.
+//! A chip on the bench: the calls that the firmware makes on it, and what it answers, shown on standard output. Nothing is promised here: what is shown
+//! is compared.
 use crate::map::*;
 use chip::Chip;
 use refusals::{Refusal, answer_number};
@@ -146,7 +147,7 @@ impl<R: Print> Bench<R> {
     /// Writes to every location its own address, so that no two of them can be one, and reads all of them.
     pub fn fill_own(&mut self) -> io::Result<()> {
         print!(self.rt; "own address to all:")?;
-        self.put_all(|address| (address % 256) as u8)?;
+        self.put_all(|address| address.to_le_bytes()[0])?;
         self.get_all()
     }
 

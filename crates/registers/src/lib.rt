@@ -125,7 +125,7 @@ pub fn set_on(b: u8) -> bool
 fn placed(on: bool, place: u8) -> u8
     ensures { result ≡ cond on place 0 }
 {
-    if on { place } else { 0 }
+    u8::from(on) * place
 }
 
 impl Regs {
@@ -317,6 +317,7 @@ impl Regs {
     }
 
     /// A write to a clock or alarm location, to location 0 without bit 7; any other address leaves all as it is.
+    // The locations are numbers here, each of which stands once, beside its field.
     #[tactic(auto, unfolding(crate::specs::Calls::write_plain))]
     fn write_plain(&mut self, address: u32, value: u8)
         ensures { self.new ≡ write_plain self.old address value }
@@ -348,7 +349,7 @@ impl Regs {
         }
     }
 
-    /// The pins at new levels; true is high, and each has the data sheet's name. RESET low takes bits 6 to 3 out of B and clears every flag; PS low clears VRT.
+    /// The pins at new levels; true is high. Two levels and no struct: each is a pin by the data sheet's name. RESET low takes bits 6 to 3 out of B and clears every flag; PS low clears VRT.
     #[tactic(auto, unfolding(crate::specs::Calls::with_pins))]
     pub fn set_pins(&mut self, reset: bool, ps: bool)
         ensures { self.new ≡ with_pins self.old reset ps }

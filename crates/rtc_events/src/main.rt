@@ -50,7 +50,7 @@ impl Program {
         Ok(self.left + got)
     }
 
-    /// The lines of the records that are whole among the first bytes of the block; answers how many bytes they have. What is left of those
+    /// The lines of the records that are whole among the first bytes of the block, of which `refill` told how many there are; answers how many bytes they have. What is left of those
     /// bytes goes to the block's start.
     fn work_block(&mut self, total: usize) -> usize
         requires { total ≤ 65536 }
@@ -69,7 +69,7 @@ impl Program {
         end
     }
 
-    /// One read, and the lines of the records that are whole with it, written before the next read waits. Breaks at the end of the input and
+    /// One read, whose end of the input is told by no byte more, as `Read::read` tells it, and the lines of the records that are whole with it, written before the next read waits. Breaks at the end of the input and
     /// after the last record that gets a line.
     fn turn(
         &mut self,

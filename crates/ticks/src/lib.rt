@@ -1,4 +1,4 @@
-//! One tick of the registers.
+//! One tick of the registers, and many.
 #![tactic(auto)]
 
 ghost use Rattle.std.specs.Prelude.{◌≡◌, ◌&&◌, not, Some};

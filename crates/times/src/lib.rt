@@ -16,7 +16,7 @@ use refusals::Refusal;
 const CENTURY: u64 = 3_155_760_000;
 
 /// A weekday, and the seconds that have passed in the century. Any numbers may stand in it: `encode` refuses those that have no bytes.
-#[derive(Clone, Copy, Debug, PartialEq, Eq)]
+#[derive(Clone, Copy, Debug, Default, PartialEq, Eq)]
 pub struct Time {
     /// 1 for Sunday to 7 for Saturday.
     pub weekday: u32,
@@ -87,7 +87,8 @@ fn year_of(day: u32) -> u8
     (day / 1461 * 4 + (day % 1461).saturating_sub(1) / 365) as u8
 }
 
-/// The month and the date of a day of a year, the first being day 0. Here too each cast keeps its number.
+/// The month and the date of a day of a year, the first being day 0. Here too each cast keeps its number. No method searches
+/// here: what is left of the day is compared month by month.
 #[tactic(auto, using(crate::proofs::Laws::Code::reached_first, crate::proofs::Laws::Code::reached_next))]
 fn place_of(leap: bool, day: u32) -> (u8, u8)
     requires { day < before (last_days leap) 12 }
@@ -121,20 +122,16 @@ impl Time {
     {
         let data = mode.data;
         // The time of day comes first, so that it is ready when the days have been added up.
+        let second = data.value(clock.seconds);
+        let minute = data.value(clock.minutes);
         let hour = mode.hour(clock.hours);
-        let day = day_of(
-            data.value(clock.year),
-            data.value(clock.month),
-            data.value(clock.date),
-        );
+        let weekday = data.value(clock.weekday);
+        let date = data.value(clock.date);
+        let month = data.value(clock.month);
+        let year = data.value(clock.year);
         Time {
-            weekday: u32::from(data.value(clock.weekday)),
-            seconds: seconds_of(
-                day,
-                hour,
-                data.value(clock.minutes),
-                data.value(clock.seconds),
-            ),
+            weekday: u32::from(weekday),
+            seconds: seconds_of(day_of(year, month, date), hour, minute, second),
         }
     }
 
@@ -166,10 +163,10 @@ impl Time {
 pub fn decode(bytes: &[u8], mode: Mode) -> Result<Time, Refusal>
     ensures { result ≡ decoded mode bytes.now }
 {
-    let Ok(bytes) = <[u8; 7]>::try_from(bytes) else {
+    let Some(bytes) = bytes.as_array::<7>() else {
         return Err(Refusal::Time);
     };
-    let clock = Clock::from(bytes);
+    let clock = Clock::from(*bytes);
     if is_valid(mode, clock) {
         Ok(Time::of_clock(mode, clock))
     } else {

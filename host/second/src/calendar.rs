@@ -1,6 +1,6 @@
 //! The clock bytes: how they move by one second, and which time they stand for.
 //!
-//! Document 01, "Advancing by one second". Every rule here gives a result for all 256 values of every byte, because a
+//! The specification, "Advancing by one second". Every rule here gives a result for all 256 values of every byte, because a
 //! program may have written anything into the clock.
 
 use crate::registers::{DM, HOURS_24};

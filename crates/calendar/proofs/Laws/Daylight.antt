@@ -1,4 +1,5 @@
 -- Daylight saving: every second but the two changes is an ordinary one, and what becomes of the mark.
+-- Stays: `same_date`, since no law of the library is of a carry.
 use mathlib.Core.Path.{◌≡◌, refl, sym, ap, ◌∙◌}
 use mathlib.Core.Bool.{Bool, true, false, cond, ◌&&◌, ◌||◌, not}
 use mathlib.Core.Logic.{◌⊎◌, inl, inr}

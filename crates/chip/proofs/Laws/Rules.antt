@@ -1,4 +1,5 @@
 -- The record rules hold of a fresh chip, and every call leaves a chip that keeps them.
+-- The laws of bits at their places stay: the library has none of a sum of places.
 use mathlib.Core.Path.{◌≡◌, refl, sym, ◌∙◌}
 use mathlib.Core.Bool.{Bool, true, false, cond}
 use mathlib.Core.Logic.{◌⊎◌, inl, inr}

@@ -1,4 +1,5 @@
 -- With SET and daylight saving off the registers follow the divider's course, and the clock moves with the updates that it counts.
+-- The laws of Bools here stay: the library has none of these four forms.
 use mathlib.Core.Path.{◌≡◌, refl, sym, ap, ◌∙◌}
 use mathlib.Core.Bool.{Bool, true, false, cond, ◌&&◌, ◌||◌, not}
 use mathlib.Core.Logic.{◌⊎◌, inl, inr}

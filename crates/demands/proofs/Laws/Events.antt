@@ -1,4 +1,5 @@
 -- Every event that may happen leaves the registers on the divider's course, and the rules kept.
+-- Stays: `bits_under_reset`, since no law of the library is of this mask.
 use mathlib.Core.Path.{◌≡◌, ◌∙◌}
 use mathlib.Core.Bool.{Bool, true, false, cond}
 use mathlib.Core.Logic.{◌⊎◌, inl, inr}

@@ -1,4 +1,5 @@
 -- A user RAM byte after any events: the last one accepted, or the one at the start.
+-- Stays: `accepted`, which computes where the library's law is cited.
 use mathlib.Core.Path.{◌≡◌, refl, sym, ap, ◌∙◌}
 use mathlib.Core.Bool.{Bool, true, false, cond, ◌&&◌}
 use mathlib.Core.Logic.{◌⊎◌, inl, inr}

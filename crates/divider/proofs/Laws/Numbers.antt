@@ -1,4 +1,5 @@
 -- Laws on plain numbers: multiples of a step, low bits, and the count of trailing zero bits. Assumes nothing.
+-- They stay: the library has none of multiples of a step, and its law of trailing zeros speaks of single bits.
 use mathlib.Core.Path.{◌≡◌, refl, sym, ap, ◌∙◌}
 use mathlib.Core.Bool.{Bool, true, false, ◌&&◌, not}
 use mathlib.Core.Logic.{◌⊎◌, inl, inr}

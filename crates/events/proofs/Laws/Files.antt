@@ -1,4 +1,5 @@
 -- A file, block after block: what is printed for a whole is what is printed for its parts, one after the other.
+-- Stays: `next_four`, since no law of the library takes four at a time.
 use mathlib.Core.Path.{◌≡◌, refl, sym, ap, ◌∙◌}
 use mathlib.Core.List.{List, [], ◌∷◌, ◌++◌, append_assoc, append-nil}
 use Prim.Native.Nat.{ℕ, zero, suc, ◌+◌, ◌-◌, ◌*◌, ◌/◌, ◌%◌, ◌≤◌, ◌<◌}

@@ -1,4 +1,5 @@
 -- The text of a line: its digits, its length, and texts put one behind the other.
+-- The laws of lists here stay or are new: the library has no text that grows to the front.
 use mathlib.Core.Path.{◌≡◌, refl, sym, ◌∙◌}
 use mathlib.Core.Bool.{Bool, true, false}
 use mathlib.Core.List.{List, [], ◌∷◌, ◌++◌, append_assoc}

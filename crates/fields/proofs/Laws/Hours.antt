@@ -1,4 +1,5 @@
 -- The hours in either hour mode, over either data mode: there and back, and the step.
+-- `low_part` and `high_part` stay: each is one step of arithmetic under a name.
 use mathlib.Core.Path.{◌≡◌, sym, ap, ◌∙◌}
 use mathlib.Core.Bool.{Bool, true, false}
 use mathlib.Core.Logic.{◌⊎◌, inl, inr}

@@ -1,3 +1,4 @@
+-- The check asks for it: what the loop keeps.
 use mathlib.Core.Path.{◌≡◌}
 use Prim.Native.Nat.{◌≤◌}
 use Rattle.times.specs.Times.{seconds_on}

@@ -1,4 +1,5 @@
 -- Bits at their places in a byte.
+-- Stays: the library has no law of a bit put at its place.
 use mathlib.Core.Bool.{Bool, true, false, cond}
 use Prim.Native.Nat.{ℕ, ◌≤◌}
 use native.Mathlib.Omega.{arith}

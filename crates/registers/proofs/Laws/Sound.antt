@@ -1,4 +1,5 @@
 -- What holds of the registers of every chip, and which calls leave it so.
+-- The laws of bits and flags here stay: each is of a register of this chip.
 use mathlib.Core.Path.{◌≡◌, refl, sym, ap, ◌∙◌}
 use mathlib.Core.Bool.{Bool, true, false, cond, ◌&&◌, ◌||◌, not}
 use mathlib.Core.Logic.{◌⊎◌, inl, inr}

@@ -1,3 +1,4 @@
+-- The check asks for it: what the loop keeps.
 use Rattle.std.proofs.Common.{◌<◌}
 use Rattle.rtc_events.proofs.run.Given as goal
 

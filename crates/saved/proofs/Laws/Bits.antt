@@ -1,4 +1,5 @@
 -- Bits in a byte: taken out of it, and put together to it.
+-- They stay: the library has none of bits taken out of a byte by division.
 use mathlib.Core.Path.{◌≡◌, refl, ap, ◌∙◌}
 use mathlib.Core.Bool.{Bool, true, false, cond}
 use Prim.Native.Nat.{ℕ, zero, suc, ◌+◌, ◌-◌, ◌*◌, ◌/◌, ◌%◌, ◌≤◌, ◌<◌}

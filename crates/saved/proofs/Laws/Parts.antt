@@ -1,4 +1,5 @@
 -- Lists that are put together from parts: a record inside a page, and a part element by element.
+-- They stay: the library has no table of a list, nor a part given back in this form.
 use mathlib.Core.Path.{◌≡◌, refl, sym, ap, ◌∙◌}
 use mathlib.Core.List.{List, [], ◌∷◌, ◌++◌}
 use Prim.Native.Nat.{ℕ, zero, suc, ◌+◌, ◌-◌, ◌≤◌}

@@ -1,4 +1,5 @@
 -- The record rules: the tests that the code makes, and the facts that they tell.
+-- The four laws of tests stay: the library has none of `beq`, nor of an implication as a Bool.
 use mathlib.Core.Path.{◌≡◌, refl}
 use mathlib.Core.Bool.{Bool, true, false, ◌||◌, not, beq}
 use mathlib.Core.List.{List}

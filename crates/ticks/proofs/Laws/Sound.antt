@@ -1,4 +1,5 @@
 -- A tick leaves sound registers sound.
+-- The laws of flags here stay: each is of a tick.
 use mathlib.Core.Path.{◌≡◌, refl, sym}
 use mathlib.Core.Bool.{Bool, true, false, cond, ◌&&◌, ◌||◌, not}
 use mathlib.Core.Logic.{◌⊎◌, inl, inr}

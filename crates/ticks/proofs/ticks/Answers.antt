@@ -1,3 +1,4 @@
+-- The check asks for these goals of the loop.
 use Rattle.std.proofs.Common.{rules, ◌≡◌, Some}
 use Rattle.registers.specs.Bits.{base_of}
 use Rattle.ticks.proofs.Laws.Ticks.{base_stays}

@@ -1,3 +1,4 @@
+-- The check asks for it: what the loop keeps.
 use Rattle.std.proofs.Common.{◌≡◌}
 use Rattle.ticks.specs.Tick.{ticks}
 use Rattle.ticks.proofs.ticks.Given as goal

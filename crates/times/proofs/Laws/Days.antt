@@ -1,4 +1,5 @@
 -- The days of a hundred years: the date of a day, the day of a date, and one day on.
+-- Stays: `one_off`, of one use.
 use mathlib.Core.Path.{◌≡◌, refl, ap, ◌∙◌}
 use mathlib.Core.Bool.{Bool, true, false}
 use mathlib.Core.Logic.{◌⊎◌, inl, inr}

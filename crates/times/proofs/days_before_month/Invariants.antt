@@ -1,3 +1,4 @@
+-- The check asks for it: what the loop keeps.
 use Rattle.times.specs.Days.{before}
 use Rattle.calendar.specs.Days.{last_days}
 use mathlib.Core.Path.{◌≡◌}

@@ -1,3 +1,4 @@
+-- The check asks for these goals of the loop.
 use native.Mathlib.Omega.{arith}
 use Rattle.times.proofs.Laws.Code.{reached_first, reached_month, reached_date, reached_last}
 use Rattle.times.proofs.place_of.Goals as goal

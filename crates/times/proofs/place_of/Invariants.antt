@@ -1,3 +1,4 @@
+-- The check asks for it: what the loop keeps.
 use Rattle.times.proofs.Laws.Code.{Reached}
 use Rattle.times.proofs.place_of.Given as goal
 

@@ -1,3 +1,4 @@
+-- The check asks for these goals of the loop.
 -- One record more is worked.
 use Rattle.std.proofs.Common.{ℕ, List, [], get_or, ap, arith}
 use Rattle.events.proofs.Laws.Files.{reached_record, reached_end}

@@ -1,3 +1,4 @@
+-- The check asks for it: what the loop keeps.
 use Rattle.std.proofs.Common.{◌*◌}
 use Rattle.events.proofs.Laws.Files.{Reached}
 use Rattle.events.proofs.State.work.Given as goal
