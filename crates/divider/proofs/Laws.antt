@@ -2,6 +2,7 @@
 pub mod Numbers
 pub mod Count
 pub mod Base
+pub mod Selected
 pub mod Keeps
 pub mod Tap
 pub mod Formula

@@ -96,6 +96,9 @@ running_is_base (Some Fastest) e = fastest_is_base
 running_is_base (Some Middle) e = middle_is_base
 running_is_base (Some Slowest) e = slowest_is_base
 
--- what the proof of a tick uses: a count that is cut down first moves to the same place, and the sum does not wrap
+-- what the proof of a tick uses: the sum does not wrap, and a count that is cut down first moves to the same place
+pub fits : (base : Option Base) (n s : ℕ) (b : Bool) → b ≡ running base → b ≡ true → s ≡ step_of base → n % span + s < 2 ^ 32
+fits base n s b p t e = omega (arith, (running_is_base base (rw (← p) t)).step_at_most_128)
+
 pub moved_from_remainder : (n s : ℕ) → (n % span + s) % span ≡ (n + s) % span
 moved_from_remainder n s = mod-add-mod n span s
