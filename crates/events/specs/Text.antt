@@ -14,6 +14,10 @@ digits (suc places) n = cond (ltb n 10) ((48 + n) ∷ []) (digits places (n / 10
 unfoldable pub decimal : ℕ → List ℕ
 decimal n = digits 10 n
 
+-- Saved chip and event file: both digits of a number below 100.
+abbrev pub two_digits : ℕ → List ℕ
+two_digits n = (48 + n / 10) ∷ (48 + n % 10) ∷ []
+
 -- Saved chip and event file: a line's level is 1 or 0.
 abbrev pub level : Bool → ℕ
 level on = cond on 49 48

@@ -2,13 +2,16 @@
 
 ghost use Rattle.std.specs.Prelude.{◌≡◌, ◌+◌, ◌≤◌, ◌<◌, [], ◌∷◌, ◌++◌, List, ℕ, length, drop};
 ghost use Rattle.std.proofs.lemmas.List.Edits.{sets};
-ghost use Rattle.events.specs.Text.{decimal, level, text_of, line_room};
+ghost use Rattle.events.specs.Text.{two_digits, decimal, level, text_of, line_room};
 
-use itoa::write_digits;
 use std::marker::Model;
 
 /// Room that every line fits into, in bytes. Lines are put into room that the caller lends, as nothing here allocates.
 pub const LINE_ROOM: usize = 24;
+
+/// Both digits of each number below 100. They are looked up: computed, they made a line take a fifth more instructions.
+const DIGITS: [u8; 200] =
+    *b"00010203040506070809101112131415161718192021222324252627282930313233343536373839404142434445464748495051525354555657585960616263646566676869707172737475767778798081828384858687888990919293949596979899";
 
 /// What the line of a record shows.
 #[derive(Clone, Copy, Debug, PartialEq, Eq)]
@@ -59,8 +62,8 @@ impl Line {
     }
 }
 
-/// Text of at most `LINE_ROOM` bytes that grows to the front, since the last digit of a number is known first. The digits come from `itoa`: of
-/// `write!` it is known what it wrote where it answers `Ok`, and not that it does.
+/// Text of at most `LINE_ROOM` bytes that grows to the front, since the last digit of a number is known first. The digits are its own: of `write!` it
+/// is known what it wrote where it answers `Ok`, and not that it does.
 #[derive(Drop)]
 struct Text {
     bytes: [u8; LINE_ROOM],
@@ -110,12 +113,42 @@ impl Text {
         self.put_byte(b'0' + u8::from(is_high));
     }
 
-    /// Puts a number in front of the text.
-    #[tactic(auto, using(crate::proofs::Laws::Text::decimal_is_std, crate::proofs::Laws::Text::room_in_front))]
-    fn put_number(&mut self, number: u32)
-        requires { length (decimal number) + length self.old ≤ line_room }
-        ensures { self.new ≡ decimal number ++ self.old }
+    /// Puts two bytes in front of the text. `start` is taken out first, as each store into the bytes would have it read again.
+    #[tactic(auto, using(crate::proofs::Laws::Text::two_in_front))]
+    fn put_pair(&mut self, first: u8, second: u8)
+        requires { length self.old + 2 ≤ line_room }
+        ensures { self.new ≡ first ∷ second ∷ self.old }
     {
-        self.start = write_digits(u64::from(number), &mut self.bytes, self.start);
+        let start = self.start;
+        self.bytes[start - 1] = second;
+        self.bytes[start - 2] = first;
+        self.start = start - 2;
+    }
+
+    /// Puts the two digits of a number below 100 in front of the text. There is no `From<u32>` for `usize`.
+    fn put_two(&mut self, n: u32)
+        requires { (n < 100) × (length self.old + 2 ≤ line_room) }
+        ensures { self.new ≡ two_digits n ++ self.old }
+    {
+        let at = 2 * n as usize;
+        self.put_pair(DIGITS[at], DIGITS[at + 1]);
+    }
+
+    /// Puts a number in front of the text. Two digits a turn halve the divisions, which wait for each other. As `u8` a number below 10 keeps its value.
+    #[tactic(auto, using(crate::proofs::Laws::Text::decimal_of_digit, crate::proofs::Laws::Text::decimal_of_two, crate::proofs::Laws::Text::decimal_of_hundreds, crate::proofs::Laws::Text::digit_length, crate::proofs::Laws::Text::two_length, crate::proofs::Laws::Text::hundreds_length))]
+    fn put_number(&mut self, n: u32)
+        requires { length (decimal n) + length self.old ≤ line_room }
+        ensures { self.new ≡ decimal n ++ self.old }
+    {
+        if n < 10 {
+            self.put_byte(48 + n as u8);
+            return;
+        }
+        if n < 100 {
+            self.put_two(n);
+            return;
+        }
+        self.put_two(n % 100);
+        self.put_number(n / 100);
     }
 }

@@ -1,13 +1,13 @@
 -- The text of a line: its digits, its length, and texts put one behind the other.
 -- The laws of lists here stay or are new: the library has no text that grows to the front.
-use mathlib.Core.Path.{◌≡◌, refl, sym, ◌∙◌}
-use mathlib.Core.Bool.{Bool, true, false}
+use mathlib.Core.Path.{◌≡◌, refl, sym, ap, subst, ◌∙◌}
+use mathlib.Core.Bool.{Bool, true, false, cond}
 use mathlib.Core.List.{List, [], ◌∷◌, ◌++◌, append_assoc}
 use mathlib.Core.Logic.{◌⊎◌, inl, inr}
 use Prim.Native.Nat.{ℕ, zero, suc, ◌+◌, ◌-◌, ◌*◌, ◌/◌, ◌%◌, ◌≤◌, ◌<◌, ◌^◌}
 use native.Mathlib.Omega.{arith}
 use lib.Dec.{ltb}
-use lib.ListN.{length, get_or, set, drop, length-append, length-drop, length-set, get_or-append}
+use lib.ListN.{length, get_or, set, drop, length-append, length-set, get_or-append}
 use lib.Seq.{sets, drop-cons, drop-set-lt}
 use borrow.Author.Tests.{lt-ltb, le-ltb}
 use Rattle.std.specs.Fmt as std
@@ -15,7 +15,7 @@ use Rattle.std.proofs.lemmas.Fmt.{AppendsLastDigit, decimal_from_appends, length
 use Rattle.std.proofs.lemmas.List.{get_or-set_same}
 use Rattle.std.proofs.lemmas.List.Edits.{sets-eq}
 use Rattle.cases.proofs.Tests.{ltb_case}
-use Rattle.events.specs.Text.{digits, decimal, level, field, line_text, line_room}
+use Rattle.events.specs.Text.{digits, two_digits, decimal, level, field, line_text, line_room}
 
 -- ---- digits
 
@@ -32,6 +32,32 @@ digit_behind : (places n : ℕ) → 10 ≤ n → digits (suc places) n ≡ digit
 unfolding digits
 digit_behind places n h = rw (le-ltb n 10 h)
 
+one_place_more : (places n : ℕ) → n < limit (suc places) → digits (suc (suc places)) n ≡ digits (suc places) n
+unfolding digits
+one_place_more zero n h = last_digit 1 n (omega arith) ∙ sym (last_digit 0 n (omega arith))
+one_place_more (suc places) n h =
+    ap (λ (front : List ℕ). cond (ltb n 10) ((48 + n) ∷ []) (front ++ ((48 + n % 10) ∷ []))) (one_place_more places (n / 10) (omega arith))
+
+pub decimal_of_digit : (n : ℕ) → n < 10 → decimal n ≡ (48 + n) ∷ []
+unfolding decimal
+decimal_of_digit n h = last_digit 9 n h
+
+decimal_of_more : (n : ℕ) → 10 ≤ n → n < 10000000000 → decimal n ≡ decimal (n / 10) ++ ((48 + n % 10) ∷ [])
+unfolding decimal
+decimal_of_more n a h =
+    digit_behind 9 n a ∙ ap (λ (front : List ℕ). front ++ ((48 + n % 10) ∷ [])) (sym (one_place_more 8 (n / 10) (omega arith)))
+
+pub decimal_of_two : (n : ℕ) → 10 ≤ n → n < 100 → decimal n ≡ two_digits n
+decimal_of_two n a h = rw (decimal_of_more n a (omega arith), decimal_of_digit (n / 10) (omega arith))
+
+pub decimal_of_hundreds : (n : ℕ) → 100 ≤ n → n < 4294967296 → decimal n ≡ decimal (n / 100) ++ two_digits (n % 100)
+decimal_of_hundreds n a h =
+    let e : n / 10 / 10 ≡ n / 100 = omega arith in
+    let f : n % 100 / 10 ≡ n / 10 % 10 = omega arith in
+    let g : n % 100 % 10 ≡ n % 10 = omega arith in
+    rw (decimal_of_more n (omega arith) (omega arith), decimal_of_more (n / 10) (omega arith) (omega arith), e, f, g)
+    (append_assoc (decimal (n / 100)) ((48 + n / 10 % 10) ∷ []) ((48 + n % 10) ∷ []))
+
 -- std has the same decimals
 pub decimal_is_std : (n : ℕ) → n < 4294967296 → std.decimal n ≡ decimal n
 unfolding decimal
@@ -41,6 +67,15 @@ decimal_is_std n h =
     sym (decimal_from_appends digits own 10 n k (length-decimal-le 10 n (omega arith) (omega arith) k))
 
 -- ---- lengths
+
+pub digit_length : (n : ℕ) → n < 10 → length (decimal n) ≡ 1
+digit_length n h = rw (decimal_of_digit n h)
+
+pub two_length : (n : ℕ) → 10 ≤ n → n < 100 → length (decimal n) ≡ 2
+two_length n a h = rw (decimal_of_two n a h)
+
+pub hundreds_length : (n : ℕ) → 100 ≤ n → n < 4294967296 → length (decimal n) ≡ length (decimal (n / 100)) + 2
+hundreds_length n a h = rw (decimal_of_hundreds n a h) (length-append (decimal (n / 100)) (two_digits (n % 100)))
 
 short : (places k n : ℕ) → n < limit (suc k) → length (digits places n) ≤ suc k
 unfolding digits
@@ -98,12 +133,6 @@ line_put l text h =
 
 -- ---- a text that grows to the front
 
-pub room_in_front : (bytes : List ℕ) (start n : ℕ) → n < 4294967296 → length bytes ≡ 24 → start ≤ 24
-    → length (decimal n) + length (drop start bytes) ≤ line_room → (length (std.decimal n) ≤ start) × (start ≤ length bytes)
-room_in_front bytes start n h e i room =
-    let d = length-drop start bytes in
-    rw (decimal_is_std n h) (omega arith, omega arith)
-
 pub lengths_add : (first second : List ℕ) → length (first ++ second) ≡ length first + length second
 lengths_add first second = length-append first second
 
@@ -113,6 +142,15 @@ byte_in_front l at byte h i =
     let e : suc (at - 1) ≡ at = omega arith in
     drop-cons (set l (at - 1) byte) (at - 1) 0 (rw length-set k)
     ∙ rw (get_or-set_same l (at - 1) byte 0 k, drop-set-lt (suc (at - 1)) l (at - 1) byte (omega arith), e)
+
+pub two_in_front : (l : List ℕ) (at tens ones : ℕ) → 2 ≤ at → at ≤ length l
+    → drop (at - 2) (set (set l (at - 1) ones) (at - 2) tens) ≡ tens ∷ ones ∷ drop at l
+two_in_front l at tens ones h i =
+    let e : at - 1 - 1 ≡ at - 2 = omega arith in
+    let k : at - 1 ≤ length (set l (at - 1) ones) = rw length-set (omega arith) in
+    subst (λ (j : ℕ). drop j (set (set l (at - 1) ones) j tens) ≡ tens ∷ drop (at - 1) (set l (at - 1) ones)) e
+    (byte_in_front (set l (at - 1) ones) (at - 1) tens (omega arith) k)
+    ∙ ap (λ (rest : List ℕ). tens ∷ rest) (byte_in_front l at ones (omega arith) i)
 
 pub line_in_parts : (number answer byte : ℕ) (irq sqw : Bool)
     → line_text number answer byte irq sqw
