@@ -1,27 +1,93 @@
 //! The parts of a line as text: bytes, clocks, alarms, modes and times.
-ghost use Rattle.std.specs.Prelude.{[], Some};
-ghost use Rattle.plate_room.specs.Text.{hex, clock_text, alarm_text};
+ghost use Rattle.std.specs.Prelude.{◌≡◌, ◌/◌, ◌%◌, ◌<◌, Some};
+ghost use Rattle.std.specs.Str.{IsAscii};
+ghost use Rattle.plate_room.specs.Text.{digit_of, clock_text, alarm_text};
 
 use calendar::{Alarm, Clock};
 use fields::{DataMode, HourMode, Mode};
 use std::fmt;
 use times::Time;
 
-/// A byte as two hex digits, the letters in capitals.
-#[derive(Clone, Copy)]
-struct Hex(u8);
-
-impl fmt::Display for Hex {
-    ghost output = { λ byte. Some (hex byte.0 []) };
-
-    #[tactic(auto, using(crate::proofs::TextLaws::two_digits))]
-    fn fmt<W: fmt::Write>(&self, f: &mut fmt::Formatter<W>) -> fmt::Result {
-        let Hex(byte) = *self;
-        write!(f, "{byte:02X}")
+/// The hex digit of a number below 16, a letter in capitals.
+fn digit(x: u8) -> u8
+    requires { x < 16 }
+    ensures { result ≡ digit_of x }
+{
+    if x < 10 {
+        return 48 + x;
     }
+    55 + x
 }
 
-/// A clock as its seven bytes in hex, in the order of the locations, apart by spaces.
+/// The first digit of a byte.
+fn high(byte: u8) -> u8
+    ensures { result ≡ digit_of (byte / 16) }
+{
+    digit(byte / 16)
+}
+
+/// The second digit of a byte.
+fn low(byte: u8) -> u8
+    ensures { result ≡ digit_of (byte % 16) }
+{
+    digit(byte % 16)
+}
+
+/// The seven bytes of a clock in hex, in the order of the locations, apart by spaces. A function beside the `Display`, whose clause speaks only of a formatter that takes the text.
+pub fn clock_text(clock: Clock) -> [u8; 20]
+    ensures text { result ≡ clock_text clock }
+    ensures ascii { IsAscii result }
+{
+    [
+        high(clock.seconds),
+        low(clock.seconds),
+        b' ',
+        high(clock.minutes),
+        low(clock.minutes),
+        b' ',
+        high(clock.hours),
+        low(clock.hours),
+        b' ',
+        high(clock.weekday),
+        low(clock.weekday),
+        b' ',
+        high(clock.date),
+        low(clock.date),
+        b' ',
+        high(clock.month),
+        low(clock.month),
+        b' ',
+        high(clock.year),
+        low(clock.year),
+    ]
+}
+
+/// The three bytes of an alarm in hex, in the order of the locations, apart by spaces.
+pub fn alarm_text(alarm: Alarm) -> [u8; 8]
+    ensures text { result ≡ alarm_text alarm }
+    ensures ascii { IsAscii result }
+{
+    [
+        high(alarm.seconds),
+        low(alarm.seconds),
+        b' ',
+        high(alarm.minutes),
+        low(alarm.minutes),
+        b' ',
+        high(alarm.hours),
+        low(alarm.hours),
+    ]
+}
+
+/// The same bytes as text.
+fn as_text(bytes: &[u8]) -> &str
+    requires { IsAscii bytes.now }
+    ensures { result.now ≡ bytes.now }
+{
+    str::from_utf8(bytes).unwrap()
+}
+
+/// A clock as `clock_text` has it.
 #[derive(Clone, Copy)]
 pub struct ClockText(pub Clock);
 
@@ -29,17 +95,11 @@ impl fmt::Display for ClockText {
     ghost output = { λ clock. Some (clock_text clock.0) };
 
     fn fmt<W: fmt::Write>(&self, f: &mut fmt::Formatter<W>) -> fmt::Result {
-        let [seconds, minutes, hours, weekday, date, month, year] = <[u8; 7]>::from(self.0).map(
-            Hex,
-        );
-        write!(
-            f,
-            "{seconds} {minutes} {hours} {weekday} {date} {month} {year}"
-        )
+        f.write_str(as_text(&clock_text(self.0)))
     }
 }
 
-/// An alarm as its three bytes in hex, in the order of the locations, apart by spaces. A type beside `ClockText`, as specs/Text says what each writes.
+/// An alarm as `alarm_text` has it. A type beside `ClockText`, as specs/Text says what each writes.
 #[derive(Clone, Copy)]
 pub struct AlarmText(pub Alarm);
 
@@ -47,8 +107,7 @@ impl fmt::Display for AlarmText {
     ghost output = { λ alarm. Some (alarm_text alarm.0) };
 
     fn fmt<W: fmt::Write>(&self, f: &mut fmt::Formatter<W>) -> fmt::Result {
-        let [seconds, minutes, hours] = [self.0.seconds, self.0.minutes, self.0.hours].map(Hex);
-        write!(f, "{seconds} {minutes} {hours}")
+        f.write_str(as_text(&alarm_text(self.0)))
     }
 }
 
