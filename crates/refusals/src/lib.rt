@@ -1,8 +1,9 @@
 //! The refusals: every reason for which a call does not do its work, and the number that the host is told.
 #![tactic(auto)]
 
-ghost use Rattle.std.specs.Prelude.{◌≡◌};
+ghost use Rattle.std.specs.Prelude.{◌≡◌, Some};
 ghost use Rattle.refusals.specs.Numbers.{number_of, answer_number};
+ghost use Rattle.refusals.specs.Words.{words_of};
 
 use std::error::Error;
 use std::fmt;
@@ -50,6 +51,8 @@ impl From<Refusal> for u8 {
 }
 
 impl fmt::Display for Refusal {
+    ghost output = { λ refusal. Some (words_of refusal) };
+
     fn fmt<W: fmt::Write>(&self, f: &mut fmt::Formatter<W>) -> fmt::Result {
         f.write_str(match self {
             Refusal::Length =>
