@@ -39,12 +39,14 @@ BENCH_RECORDS ?= 10000000
 
 # The calls stand in the library mc146818, and mc146818_c exports them: a crate is a library or a static library, not
 # both. Hosts link libmc146818.a, in which each function begins at a line of the processor's cache: else the speed of a loop
-# would hang on what a host happens to link in front of it.
+# would hang on what a host happens to link in front of it. Nothing but that is changed, which host/test sees, and an archive that
+# could not be aligned does not get the name.
 archive:
 	cd crates/mc146818_c && rt lib
 	@install -d target/staticlib
-	install -m 644 crates/mc146818_c/out/libmc146818_c.a target/staticlib/libmc146818.a
-	objcopy -D --set-section-alignment '.text*=64' target/staticlib/libmc146818.a
+	install -m 644 crates/mc146818_c/out/libmc146818_c.a target/staticlib/aligned.a
+	objcopy -D --set-section-alignment '.text*=64' target/staticlib/aligned.a
+	mv target/staticlib/aligned.a target/staticlib/libmc146818.a
 
 target/staticlib/libmc146818.a: $(wildcard crates/*/src/*.rt crates/*/specs/*.antt)
 	@mkdir -p target
